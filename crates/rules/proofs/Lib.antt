@@ -1,0 +1,10 @@
+pub mod Choice
+pub mod Masks
+pub mod Round
+pub mod Winner
+pub mod WellFormed
+pub mod Taken
+pub mod Decision
+pub mod Total
+pub mod Kept
+pub mod Cases

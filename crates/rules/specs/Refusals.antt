@@ -1,0 +1,62 @@
+-- The refusals and their numbers: the table "Refusal numbers" of document 01.
+--
+--   numberOf r      == the number of the refusal r
+--   answerOf a      == the number that a step answers: 0, or that of its refusal
+--   stateOf a       == the state that a step hands back
+--   startOf a       == the number that a reset answers: 0, or that of its refusal
+--   firstOf v u a o == of the tests 4, 5, 6 and 7, in this order, the first that applies
+use Prim.Native.Nat.{ℕ}
+use mathlib.Core.Bool.{Bool, true, false, cond}
+use Rattle.rules.specs.declared.Refusal.{Refusal}
+use Rattle.rules.specs.declared.Refusal.the-variants as refusal
+use Rattle.rules.specs.declared.Check.{Check}
+use Rattle.rules.specs.declared.Check.the-variants.{Good, Bad}
+use Rattle.rules.specs.declared.State.{State}
+use Rattle.rules.specs.declared.Start.{Start}
+use Rattle.rules.specs.declared.Start.the-variants.{Ready, Refused as Unready}
+use Rattle.rules.specs.declared.Answer.{Answer}
+use Rattle.rules.specs.declared.Answer.the-variants.{Next, Refused}
+
+abbrev pub numberOf : Refusal → ℕ
+-- n is not 2 to 16
+numberOf refusal.Masters = 1
+-- the header has another shape or the other word, or the input is empty
+numberOf refusal.Header = 2
+-- the position is beyond the input, a line is cut, or a tab or LF is not in its place
+numberOf refusal.Shape = 3
+-- a character its field doesn't allow, or a number above its field's limit
+numberOf refusal.Value = 4
+-- HTRANS 1, or HBURST 2, 4, 5, 6, 7
+numberOf refusal.NotBuilt = 5
+-- HBUSREQ, HLOCK or HGRANT names a master not below n
+numberOf refusal.Absent = 6
+-- HMASTER not below n
+numberOf refusal.Owner = 7
+-- the count is 1,000,000 already
+numberOf refusal.Full = 8
+-- a lent buffer is too short
+numberOf refusal.Short = 9
+-- the state is not well formed
+numberOf refusal.State = 10
+-- a decision with a request high finds no master
+numberOf refusal.Nobody = 11
+
+abbrev pub answerOf : Answer → ℕ
+answerOf (Next s o) = 0
+answerOf (Refused r s) = numberOf r
+
+abbrev pub stateOf : Answer → State
+stateOf (Next s o) = s
+stateOf (Refused r s) = s
+
+abbrev pub startOf : Start → ℕ
+startOf (Ready s) = 0
+startOf (Unready r) = numberOf r
+
+-- the flags say whether 4, 5, 6 and 7 apply
+abbrev pub firstOf : Bool → Bool → Bool → Bool → Check
+firstOf value unbuilt absent owner =
+    cond value (Bad refusal.Value)
+    (cond unbuilt (Bad refusal.NotBuilt)
+    (cond absent (Bad refusal.Absent)
+    (cond owner (Bad refusal.Owner) Good)))
