@@ -1,0 +1,8 @@
+-- The rules of document 01 over traces, and the judge that applies them. Read Columns, Traces and Rules with the page's "Rules the judge applies" beside them.
+pub mod Columns
+pub mod Traces
+pub mod Rules
+pub mod State
+pub mod Charges
+pub mod Step
+pub mod Kept
