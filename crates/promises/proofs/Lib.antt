@@ -1,0 +1,10 @@
+pub mod Bound
+pub mod Served
+pub mod Fair
+pub mod Lockfree
+pub mod History
+pub mod Pairs
+pub mod Phases
+pub mod Losses
+pub mod Unbroken
+pub mod Promises

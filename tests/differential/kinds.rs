@@ -1,0 +1,153 @@
+//! The kinds of case, and how many of each the short and the long form run.
+
+use crate::aimed::{aimed, arbiter_trace};
+use crate::case::{plain, sample, stimulus_text, trace_text, Case, Feed, Program, Promise, PROGRAMS};
+use crate::chaos::{chaotic, random_trace};
+use crate::reference::arbiter;
+use crate::reference::judge::RULES;
+use crate::reference::lines::Inputs;
+use crate::rng::Rng;
+use crate::traffic::lawful;
+use crate::{codes, damage, headers, mutate, runs};
+
+/// A kind makes the cases of its turn; the turns go round the numbers of masters.
+pub struct Kind {
+    pub name: &'static str,
+    pub make: fn(&mut Rng, usize) -> Vec<Case>,
+    pub short: usize,
+    pub long: usize,
+}
+
+/// 2 to 16 masters, turn by turn.
+fn masters(turn: usize) -> usize {
+    2 + turn % 15
+}
+
+pub const KINDS: [Kind; 17] = [
+    Kind { name: "lawful traffic", make: lawful_runs, short: 120, long: 900 },
+    Kind { name: "chaotic stimuli", make: chaotic_runs, short: 120, long: 900 },
+    Kind { name: "random traces", make: random_traces, short: 90, long: 900 },
+    Kind { name: "one column changed", make: one_change, short: 150, long: 1500 },
+    Kind { name: "several columns changed", make: several_changes, short: 150, long: 1500 },
+    Kind { name: "lines moved", make: moved_lines, short: 60, long: 600 },
+    Kind { name: "aimed at a rule", make: aimed_traces, short: 630, long: 21 * 15 * 14 },
+    Kind { name: "long locked bursts", make: locked_bursts, short: 45, long: 300 },
+    Kind { name: "lost decisions", make: lost_decisions, short: 135, long: 135 * 6 },
+    Kind { name: "headers", make: headers::cases, short: headers::COUNT, long: headers::COUNT * 3 },
+    Kind { name: "one refused value", make: one_fault, short: 195, long: 1170 },
+    Kind { name: "several refused values", make: several_faults, short: 75, long: 750 },
+    Kind { name: "damaged bytes", make: damaged_bytes, short: 75, long: 900 },
+    Kind { name: "cut short", make: cut_short, short: damage::CUTS, long: damage::CUTS * 8 },
+    Kind { name: "something extra", make: something_extra, short: 30, long: 300 },
+    Kind { name: "block sizes", make: block_sizes, short: 18, long: 90 },
+    Kind { name: "fed in pieces", make: in_pieces, short: 30, long: 200 },
+];
+
+/// A stimulus for the arbiter, and the trace that comes of it for the judge.
+fn both(n: usize, stimulus: &[Inputs], promise: Promise) -> Vec<Case> {
+    let trace = trace_text(n, &arbiter::run(n, stimulus));
+    let judged = Case { promise, ..plain(Program::Judge, trace) };
+    vec![plain(Program::Arbiter, stimulus_text(n, stimulus)), judged]
+}
+
+fn lawful_runs(rng: &mut Rng, turn: usize) -> Vec<Case> {
+    let (n, cycles) = (masters(turn), rng.within(1, 200));
+    both(n, &lawful(rng, n, cycles), Promise::Clean)
+}
+
+fn chaotic_runs(rng: &mut Rng, turn: usize) -> Vec<Case> {
+    let (n, cycles) = (masters(turn), rng.within(1, 150));
+    both(n, &chaotic(rng, n, cycles), Promise::NoGuarantee)
+}
+
+fn random_traces(rng: &mut Rng, turn: usize) -> Vec<Case> {
+    let n = masters(turn);
+    let cycles = if rng.chance(1, 4) { rng.below(4) } else { rng.within(4, 120) };
+    vec![plain(Program::Judge, trace_text(n, &random_trace(rng, n, cycles)))]
+}
+
+fn one_change(rng: &mut Rng, turn: usize) -> Vec<Case> {
+    changed(rng, turn, 1)
+}
+
+fn several_changes(rng: &mut Rng, turn: usize) -> Vec<Case> {
+    let count = rng.within(2, 12);
+    changed(rng, turn, count)
+}
+
+fn changed(rng: &mut Rng, turn: usize, count: usize) -> Vec<Case> {
+    let (n, cycles) = (masters(turn), rng.within(1, 80));
+    let mut trace = arbiter_trace(rng, n, cycles);
+    mutate::flip(rng, n, &mut trace, count);
+    vec![plain(Program::Judge, trace_text(n, &trace))]
+}
+
+fn moved_lines(rng: &mut Rng, turn: usize) -> Vec<Case> {
+    let (n, cycles) = (masters(turn), rng.within(2, 60));
+    let mut trace = arbiter_trace(rng, n, cycles);
+    for _ in 0..rng.within(1, 3) {
+        mutate::move_lines(rng, &mut trace);
+    }
+    vec![plain(Program::Judge, trace_text(n, &trace))]
+}
+
+fn aimed_traces(rng: &mut Rng, turn: usize) -> Vec<Case> {
+    let (n, rule) = (masters(turn), RULES[turn / 15 % RULES.len()].0);
+    vec![plain(Program::Judge, trace_text(n, &aimed(rng, n, rule)))]
+}
+
+fn locked_bursts(rng: &mut Rng, turn: usize) -> Vec<Case> {
+    let n = masters(turn);
+    vec![plain(Program::Judge, trace_text(n, &runs::locked_incr(rng, n)))]
+}
+
+/// Every master of every number of masters in turn.
+fn lost_decisions(rng: &mut Rng, turn: usize) -> Vec<Case> {
+    let all: Vec<(usize, usize)> = (2..=16).flat_map(|n| (0..n).map(move |victim| (n, victim))).collect();
+    let (n, victim) = all[turn % all.len()];
+    vec![plain(Program::Judge, trace_text(n, &runs::losses(rng, n, victim)))]
+}
+
+fn one_fault(rng: &mut Rng, turn: usize) -> Vec<Case> {
+    codes::single(rng, masters(turn), turn)
+}
+
+fn several_faults(rng: &mut Rng, turn: usize) -> Vec<Case> {
+    codes::several(rng, masters(turn), turn)
+}
+
+fn damaged_bytes(rng: &mut Rng, turn: usize) -> Vec<Case> {
+    damage::bytes(rng, masters(turn))
+}
+
+fn cut_short(rng: &mut Rng, turn: usize) -> Vec<Case> {
+    damage::cuts(rng, masters(turn), turn)
+}
+
+fn something_extra(rng: &mut Rng, turn: usize) -> Vec<Case> {
+    damage::extra(rng, masters(turn))
+}
+
+fn block_sizes(rng: &mut Rng, turn: usize) -> Vec<Case> {
+    damage::blocks(rng, masters(turn), turn)
+}
+
+/// Inputs fed a byte at a time, or in pieces that fit no line; some of them are refused.
+fn in_pieces(rng: &mut Rng, turn: usize) -> Vec<Case> {
+    let n = masters(turn);
+    let mut all = Vec::new();
+    for program in PROGRAMS {
+        let cycles = rng.within(0, 12);
+        let (input, sizes) = match rng.below(3) {
+            0 => (sample(rng, program, n, cycles), vec![1]),
+            1 => (damage::bytes(rng, n).swap_remove(usize::from(program == Program::Judge)).input, vec![1]),
+            _ => {
+                let usual = [1, 2, 3, 5, 7, 15, 16, 17, 30, 31, 32, 33, 61, 64, 100];
+                let sizes = (0..rng.within(1, 5)).map(|_| rng.pick(&usual)).collect();
+                (sample(rng, program, n, cycles * 8), sizes)
+            }
+        };
+        all.push(Case { feed: Feed::Pieces(sizes), ..plain(program, input) });
+    }
+    all
+}
