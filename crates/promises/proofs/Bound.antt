@@ -28,7 +28,7 @@ Ahead C k w v true true = v ≤ 0
 Ahead C k w v true false = (v ≤ k + (C + C * w)) × (v ≤ 1 + (C + C * w))
 
 -- one loss less leaves one access less
-one-less : (C w' w : ℕ) → w' < w → C + C * w' ≤ C * w
+pub one-less : (C w' w : ℕ) → w' < w → C + C * w' ≤ C * w
 one-less C w' w h =
     let p = mul-le-mul-left C h in
     let q : C * (w' + 1) ≡ C * w' + C * 1 = mul-add C w' 1 in
@@ -74,7 +74,7 @@ none-ahead C k w true true = omega arith
 none-ahead C k w true false = (omega arith, omega arith)
 
 -- the parts of `handedBy` and `AtMost` at a cycle
-not-now : (a b : Bool) (v : ℕ) → cond a (ltb 0 (suc v)) b ≡ false → (a ≡ false) × (b ≡ false)
+pub not-now : (a b : Bool) (v : ℕ) → cond a (ltb 0 (suc v)) b ≡ false → (a ≡ false) × (b ≡ false)
 not-now true b v e = absurd (differ (ltb 0 (suc v)) (lt-ltb 0 (suc v) (omega arith)) e)
 not-now false b v e = (refl, e)
 
@@ -83,11 +83,11 @@ within-now true used C A B h e = omega (arith, h .0)
 within-now false used C A B h e = absurd (false≢true e)
 
 -- of v + 1 ready cycles one is gone after a ready one
-fewer : (r : Bool) (v q : ℕ) → suc v ≤ cond r 1 0 + q → suc v - cond r 1 0 ≤ q
+pub fewer : (r : Bool) (v q : ℕ) → suc v ≤ cond r 1 0 + q → suc v - cond r 1 0 ≤ q
 fewer true v q h = omega arith
 fewer false v q h = omega arith
 
-whole : (r : Bool) (v : ℕ) → cond r 1 0 + (suc v - cond r 1 0) ≡ suc v
+pub whole : (r : Bool) (v : ℕ) → cond r 1 0 + (suc v - cond r 1 0) ≡ suc v
 whole true v = omega arith
 whole false v = omega arith
 

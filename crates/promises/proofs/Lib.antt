@@ -6,5 +6,9 @@ pub mod History
 pub mod Pairs
 pub mod Phases
 pub mod Losses
+pub mod Exact
 pub mod Unbroken
+pub mod Cleared
 pub mod Promises
+pub mod Wrong
+pub mod Examples

@@ -42,7 +42,7 @@ room false (Fixed k) = k + 1
 room false Open = 2
 room false Done = 2
 
-room-some : (g : Bool) (p : Phase) → 1 ≤ room g p
+pub room-some : (g : Bool) (p : Phase) → 1 ≤ room g p
 room-some true p = omega arith
 room-some false Fresh = omega arith
 room-some false (Fixed k) = omega arith
@@ -117,7 +117,7 @@ after-granted s v g = simp g
 
 module _ (s : State) (x : Inputs) (s' : State) (o : Outputs) (k : Taken s x s' o) where
   -- a cycle with GRANTED low in which somebody requests
-  room-falls : (i : ℕ) → s .granted ≡ false → s .hmastlock ≡ false → high (x .hbusreq) i ≡ true
+  pub room-falls : (i : ℕ) → s .granted ≡ false → s .hmastlock ≡ false → high (x .hbusreq) i ≡ true
       → room (s' .granted) (s' .phase) + cond (ready x) 1 0 ≤ room false (s .phase)
   unfolding seen
   room-falls i g l asks =
@@ -132,7 +132,7 @@ module _ (s : State) (x : Inputs) (s' : State) (o : Outputs) (k : Taken s x s' o
       (room-low (s .phase) (v .ready) (v .nonseq) (v .request) (v .lock) (v .burst) (decide s x) (built-burst (x .hburst)) ok (decides-free s v g l))
 
   -- a cycle with GRANTED high: the handover, or a wait for it
-  room-handed : s .granted ≡ true → room (s' .granted) (s' .phase) ≤ cond (ready x) longest 1
+  pub room-handed : s .granted ≡ true → room (s' .granted) (s' .phase) ≤ cond (ready x) longest 1
   unfolding seen
   room-handed g =
       let d : decide s x ≡ false = either (decide s x) (λ d. absurd (true≢false (sym g ∙ decides-low s (seen s x) d))) (λ d. d) in
@@ -145,7 +145,7 @@ module _ (s : State) (x : Inputs) (s' : State) (o : Outputs) (k : Taken s x s' o
       go false a b = rw a (omega arith)
 
   -- HMASTLOCK stays low
-  lock-free : s .hmastlock ≡ false → ((i : ℕ) → high (x .hlock) i ≡ false) → s' .hmastlock ≡ false
+  pub lock-free : s .hmastlock ≡ false → ((i : ℕ) → high (x .hlock) i ≡ false) → s' .hmastlock ≡ false
   unfolding lockAfter
   lock-free l none = next-lock s x s' o k ∙ rw (none (s .g), l) (go (s .granted && ready x))
     where

@@ -1,6 +1,6 @@
 -- The promises hold of the step of document 01.
 use Prim.Native.Nat.{ℕ, _+_, _-_, _*_, _≤_, _<_}
-use mathlib.Core.Path.{_≡_, refl, sym, _∙_, subst}
+use mathlib.Core.Path.{_≡_, refl, sym, _∙_, ap}
 use mathlib.Core.Bool.{Bool, true, false, not}
 use mathlib.Core.List.{List}
 use native.Mathlib.Omega.{arith}
@@ -21,13 +21,16 @@ use Rattle.rules.specs.Phase.{seen}
 use Rattle.rules.specs.Step.{chosen, moved, shown, accepted, stepOf}
 use Rattle.rules.proofs.Winner.{turns-below, turns-other}
 use Rattle.rules.proofs.WellFormed.{facts-of, test-of}
-use Rattle.rules.proofs.Taken.{decide}
+use Rattle.rules.proofs.Taken.{taken, decide, next-g}
 use Rattle.rules.proofs.Total.{never-refused}
-use Rattle.promises.specs.Promises.{HandsBack, NeverRefuses, StaysWellFormed, LosesFew, NobodyWinsTwice, ServesWithin, ServesSoon, Promised}
+use Rattle.promises.specs.Machines.{theStep}
+use Rattle.promises.specs.Promises.{HandsBack, NeverRefuses, FollowsThePage, StaysWellFormed, LosesFew, NobodyWinsTwice, ServesWithin, ServesSoon, Promised}
 use Rattle.promises.proofs.Bound.{bound}
 use Rattle.promises.proofs.Served.{turnsOf, served}
 use Rattle.promises.proofs.Fair.{Sound, reached-sound, few-losses, one-win-each}
 use Rattle.promises.proofs.Lockfree.{longest, room-most, short-accesses}
+use Rattle.promises.proofs.Exact.{serves-exactly}
+use Rattle.promises.proofs.Cleared.{cleared}
 use Rattle.promises.proofs.Unbroken.{breaks-no-guarantee, cuts-no-burst}
 
 hands-back : HandsBack stepOf
@@ -45,6 +48,12 @@ never-refuses : NeverRefuses stepOf
 never-refuses s x w room good =
     let f = never-refused s x (facts-of s w) room good in
     (moved s x (decide s x) (f .0), shown s (seen s x) (decide s x), f .1)
+
+follows-the-page : FollowsThePage stepOf
+follows-the-page s x s' o e =
+    let k = taken s x s' o e in
+    let g = next-g s x s' o k in
+    (k .shows, k .chose ∙ ap At (sym g), k .moves ∙ ap (λ (w : ℕ). moved s x (decide s x) w) (sym g))
 
 stays-well-formed : StaysWellFormed stepOf
 stays-well-formed n s h = test-of s (reached-sound h .formed)
@@ -74,16 +83,19 @@ serves-soon n i s t xs h hi free r u a l =
     (short-accesses i r 0 free u a (omega (arith, room-most (s .granted) (s .phase) (s .hmastlock) (reached-sound h .formed .phase))))
     l
 
-pub promised : Promised stepOf
+pub promised : Promised theStep
 promised =
     record {
       hands-back = hands-back;
       never-refuses = never-refuses;
+      follows-the-page = follows-the-page;
       stays-well-formed = stays-well-formed;
       breaks-no-guarantee = breaks-no-guarantee;
+      cleared = cleared;
       cuts-no-burst = cuts-no-burst;
       loses-few = loses-few;
       nobody-wins-twice = nobody-wins-twice;
       serves-within = serves-within;
       serves-soon = serves-soon;
+      serves-exactly = serves-exactly;
     }

@@ -2,7 +2,7 @@
 --
 --   Machine            == an arbiter: its places, the state of document 01 in each, and its steps
 --   machineOf step     == the machine of a step function: it goes on where the step is not refused
---   arbiter            == the arbiter of document 01
+--   arbiter, theStep   == the arbiter of document 01, and its step
 --   decision s x       == DECIDE in the state s with the inputs x
 --   InTurn M           == the laws of an arbiter that serves its masters in turn: all that the bounds ask of it
 use Prim.Native.Nat.{ℕ, _<_}
@@ -36,6 +36,10 @@ machineOf step =
 
 abbrev pub arbiter : Machine
 arbiter = machineOf stepOf
+
+-- the step that the promises are proved of
+abbrev pub theStep : State → Inputs → Answer
+theStep s x = stepOf s x
 
 abbrev pub decision : State → Inputs → Bool
 decision s x = decides s (seen s x)

@@ -6,9 +6,9 @@
 use Prim.Native.Nat.{ℕ, _+_, _-_, _*_, _≤_, _<_}
 use mathlib.Core.Path.{_≡_}
 use mathlib.Core.Bool.{Bool, true, false, not, _&&_}
-use mathlib.Core.List.{List, [], _∷_}
+use mathlib.Core.List.{List, [], _∷_, List·Memᴰ}
 use lib.Dec.{ltb}
-use lib.ListN.{length}
+use lib.ListN.{length, getD}
 use Rattle.rules.specs.declared.Refusal.{Refusal}
 use Rattle.rules.specs.declared.Check.the-variants.{Good}
 use Rattle.rules.specs.declared.State.{State}
@@ -21,8 +21,13 @@ use Rattle.rules.specs.declared.Start.the-variants.{Ready}
 use Rattle.rules.specs.Codes.{mostCycles, longestBurst}
 use Rattle.rules.specs.Valid.{inputsCheck}
 use Rattle.rules.specs.State.{resetOf, wellFormed}
+use Rattle.rules.specs.Phase.{seen}
+use Rattle.rules.specs.Step.{chosen, moved, shown}
+use Rattle.rules.specs.declared.Found.the-variants.{At}
 use Rattle.rulebook.specs.declared.Rule.{Rule}
 use Rattle.rulebook.specs.declared.Rule.the-variants.{A1, A2, A3, A4, A5, A6, A7, A8, A9, G1, G2, G3, G4, G5, G6, G7, G8, G9, G10, G11, G12}
+use Rattle.rulebook.specs.declared.Judge.{Judge}
+use Rattle.rulebook.specs.Step.{Judged, report}
 use Rattle.rulebook.specs.Columns.{granted, locked, handover, isFixed, isIncr, beats, ownersRequest}
 use Rattle.rulebook.specs.Traces.{access, Opened, notYet, openedAt, opening, all, readies as readiesIn, soFar}
 use Rattle.rulebook.specs.Rules.{brokenAt}
@@ -82,6 +87,12 @@ module _ (step : State → Inputs → Answer) where
       (s : State) (x : Inputs) → wellFormed s ≡ true → s .count < mostCycles → inputsCheck (s .n) x ≡ Good
       → (s' : State) × (o : Outputs) × (step s x ≡ Next s' o)
 
+  -- "Each cycle's grants, master, lock and decision are those of document 01": what a step shows, and where it leads.
+  abbrev pub FollowsThePage : Type 0
+  FollowsThePage =
+      (s : State) (x : Inputs) (s' : State) (o : Outputs) → step s x ≡ Next s' o
+      → (o ≡ shown s (seen s x) (decision s x)) × (chosen s x (decision s x) ≡ At (s' .g)) × (s' ≡ moved s x (decision s x) (s' .g))
+
   -- a step leads to a well-formed state, so every state that a run reaches is well formed
   abbrev pub StaysWellFormed : Type 0
   StaysWellFormed = (n : ℕ) (s : State) → Reached step n s → wellFormed s ≡ true
@@ -91,6 +102,13 @@ module _ (step : State → Inputs → Answer) where
   BreaksNoGuarantee =
       (n : ℕ) (s t : State) (xs : List Inputs) → resetOf n ≡ Ready s → (r : Run (machineOf step) s xs t)
       → (g : Rule) → isGuarantee g ≡ true → (k : ℕ) → k < length (traceOf r) → brokenAt n g (traceOf r) k ≡ false
+
+  -- So the judge takes the trace, and charges no guarantee in it.
+  abbrev pub ClearedByTheJudge : Type 0
+  ClearedByTheJudge =
+      (n : ℕ) (s t : State) (xs : List Inputs) → resetOf n ≡ Ready s → (r : Run (machineOf step) s xs t)
+      → ((j : Judge) × Judged n (traceOf r) j)
+      × ((j : Judge) (d : Judged n (traceOf r) j) (k : ℕ) → k < length (traceOf r) → (g : Rule) → isGuarantee g ≡ true → List·Memᴰ g (getD (report d) k []) → ⊥)
 
   -- "no protected burst is cut": from an opening with GRANTED low, no fixed burst of a run, locked or not, sees a handover before its last beat,
   -- and no locked INCR one before its owner's request falls.
@@ -126,14 +144,23 @@ module _ (step : State → Inputs → Answer) where
       (n i : ℕ) (s t : State) (xs : List Inputs) → Reached step n s → i < n → s .hmastlock ≡ false → (r : Run (machineOf step) s xs t)
       → Unlocked r → Requests i r → (longestBurst + 1) * n + 1 ≤ readies r → handedBy ((longestBurst + 1) * n + 1) i r ≡ true
 
+  -- Beyond the demand, the exact bound: by the 5n-th. Some run needs as many (proofs/Examples.antt).
+  abbrev pub ServesExactly : Type 0
+  ServesExactly =
+      (n i : ℕ) (s t : State) (xs : List Inputs) → Reached step n s → i < n → s .hmastlock ≡ false → (r : Run (machineOf step) s xs t)
+      → Unlocked r → Requests i r → (longestBurst + 1) * n ≤ readies r → handedBy ((longestBurst + 1) * n) i r ≡ true
+
   -- all of them
   pub record Promised : Type 0 where
     pub hands-back : HandsBack
     pub never-refuses : NeverRefuses
+    pub follows-the-page : FollowsThePage
     pub stays-well-formed : StaysWellFormed
     pub breaks-no-guarantee : BreaksNoGuarantee
+    pub cleared : ClearedByTheJudge
     pub cuts-no-burst : CutsNoBurst
     pub loses-few : LosesFew
     pub nobody-wins-twice : NobodyWinsTwice
     pub serves-within : ServesWithin
     pub serves-soon : ServesSoon
+    pub serves-exactly : ServesExactly

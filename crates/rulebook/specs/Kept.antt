@@ -2,7 +2,7 @@
 --
 --   watchIn o          == the watch in an access at its opening
 --   keptOf n h         == the judge after the history h
---   Valid n c, Sound j == a valid cycle, a well-formed judge, as facts
+--   Sound j            == a well-formed judge, as facts
 use Prim.Native.Nat.{ℕ, _-_, _%_, _^_, _≤_, _<_}
 use mathlib.Core.Path.{_≡_}
 use mathlib.Core.Bool.{Bool, true, false, _&&_, cond}

@@ -1,4 +1,5 @@
--- The rules of document 01 over traces, and the judge that applies them. Read Columns, Traces and Rules with the page's "Rules the judge applies" beside them.
+-- The rules of document 01 over traces, and the judge that applies them. Read Columns, Traces and Rules with the page's "Rules the judge applies" beside them;
+-- Promises then says what is proved of the judge, and Examples what the rules say of the page's printed run.
 pub mod Columns
 pub mod Traces
 pub mod Rules
@@ -6,3 +7,5 @@ pub mod State
 pub mod Charges
 pub mod Step
 pub mod Kept
+pub mod Promises
+pub mod Examples

@@ -179,9 +179,10 @@ rules =
     A1 ∷ A2 ∷ A3 ∷ A4 ∷ A5 ∷ A6 ∷ A7 ∷ A8 ∷ A9
     ∷ G1 ∷ G2 ∷ G3 ∷ G4 ∷ G5 ∷ G6 ∷ G7 ∷ G8 ∷ G9 ∷ G10 ∷ G11 ∷ G12 ∷ []
 
+-- the rest is named, so that it is computed once
 unfoldable pub those : (Rule → Bool) → List Rule → List Rule
 those f [] = []
-those f (r ∷ l) = cond (f r) (r ∷ those f l) (those f l)
+those f (r ∷ l) = let rest = those f l in cond (f r) (r ∷ rest) rest
 
 unfoldable pub brokenRules : ℕ → List Cycle → ℕ → List Rule
 brokenRules n trace t = those (λ r. brokenAt n r trace t) rules

@@ -1,0 +1,100 @@
+-- Each of the four wrong arbiters breaks a promise: no run of theirs is needed but one of eleven ready cycles with two masters, in which
+-- master 1 requests from the start and nobody locks.
+use Prim.Native.Nat.{ℕ, _+_, _*_, _/_, _%_, _^_, _-_}
+use mathlib.Core.Path.{_≡_, refl, sym, _∙_}
+use mathlib.Core.Bool.{Bool, true, false, false≢true}
+use mathlib.Core.List.{List, [], _∷_}
+use native.Mathlib.Omega.{arith}
+use lib.ListN.{length}
+use Rattle.rules.specs.declared.Check.the-variants.{Good}
+use Rattle.rules.specs.declared.Phase.the-variants.{Fresh, Done}
+use Rattle.rules.specs.declared.State.{State}
+use Rattle.rules.specs.declared.Inputs.{Inputs}
+use Rattle.rules.specs.declared.Outputs.{Outputs}
+use Rattle.rules.specs.declared.Answer.{Answer}
+use Rattle.rules.specs.declared.Answer.the-variants.{Next, Refused}
+use Rattle.rules.specs.declared.Start.the-variants.{Ready}
+use Rattle.rules.specs.Codes.{burstOf}
+use Rattle.rules.specs.Masks.{high}
+use Rattle.rules.specs.Valid.{inputsTooLarge, inputsNotBuilt, inputsAbsent, inputsCheck}
+use Rattle.rules.specs.Winner.{next, walk, winner}
+use Rattle.rules.specs.State.{resetState, resetOf, phaseOk, wellFormed}
+use Rattle.rules.specs.Phase.{seen, phaseAfter, opensLater, decides}
+use Rattle.rules.specs.Step.{chosen, grantedAfter, ownerAfter, lockAfter, moved, shown, accepted, stepOf}
+use Rattle.rules.proofs.Masks.{high-of-zero}
+use Rattle.promises.specs.Machines.{Machine, machineOf}
+use Rattle.promises.specs.Runs.{Run, stop, more, Reached, readies, Requests, Unlocked, handedBy}
+use Rattle.promises.specs.Promises.{Promised}
+use Rattle.promises.specs.Wrong.{refusing, favouring, untouching, repeating}
+
+-- master 1 requests, ready, IDLE
+abbrev asking : Inputs
+asking = record { hbusreq = 2; hlock = 0; hready = 1; htrans = 0; hburst = 0 }
+
+pub refusing-is-shut-out : Promised refusing → ⊥
+unfolding refusing wellFormed phaseOk inputsCheck inputsTooLarge inputsNotBuilt inputsAbsent burstOf
+refusing-is-shut-out p =
+    let a = p .never-refuses (resetState 2) asking refl (omega arith) refl in
+    let e = a .2 in
+    let z : _≡_ {A = ℕ} 0 1 = cc in omega arith
+
+-- a step that brings master 1 nothing in eleven ready cycles from reset breaks the ready-cycle bound
+abbrev eleven : List Inputs
+eleven = asking ∷ asking ∷ asking ∷ asking ∷ asking ∷ asking ∷ asking ∷ asking ∷ asking ∷ asking ∷ asking ∷ []
+
+-- in it nobody locks, and master 1 requests
+abbrev AllAsking : List Inputs → Type 0
+AllAsking [] = Unit {0}
+AllAsking (x ∷ l) = (x ≡ asking) × AllAsking l
+
+module _ {M : Machine} where
+  nobody-locks : {s t : M .Place} {xs : List Inputs} (r : Run M s xs t) → AllAsking xs → Unlocked r
+  unfolding Unlocked
+  nobody-locks stop h = tt
+  nobody-locks (more {x = x} e r) h = (λ i. rw (h .0) (high-of-zero i), nobody-locks r (h .1))
+
+  one-requests : {s t : M .Place} {xs : List Inputs} (r : Run M s xs t) → AllAsking xs → Requests 1 r
+  unfolding Requests high
+  one-requests stop h = tt
+  one-requests (more {x = x} e r) h = (rw (h .0), one-requests r (h .1))
+
+  all-ready : {s t : M .Place} {xs : List Inputs} (r : Run M s xs t) → AllAsking xs → readies r ≡ length xs
+  unfolding readies
+  all-ready stop h = refl
+  all-ready (more {x = x} e r) h = rw (h .0, all-ready r (h .1)) (omega arith)
+
+starved : (step : State → Inputs → Answer) (t : State) (r : Run (machineOf step) (resetState 2) eleven t) → handedBy 11 1 r ≡ false → Promised step → ⊥
+unfolding resetOf
+starved step t r h p =
+    let only : AllAsking eleven = (refl, (refl, (refl, (refl, (refl, (refl, (refl, (refl, (refl, (refl, (refl, tt))))))))))) in
+    let here : Reached step 2 (resetState 2) = record { first = resetState 2; began = refl; inputs = []; run = stop } in
+    let e = p .serves-soon 2 1 (resetState 2) t eleven here (omega arith) refl r (nobody-locks r only) (one-requests r only) (omega (arith, all-ready r only)) in
+    false≢true (sym h ∙ e)
+
+-- the bus parked at master 0 after k cycles
+abbrev parked : ℕ → Bool → State
+parked k granted = record { n = 2; g = 0; m = 0; hmastlock = false; granted = granted; phase = Fresh; count = k }
+
+favouring-run : Run (machineOf favouring) (resetState 2) eleven (parked 11 true)
+unfolding favouring high burstOf inputsTooLarge inputsNotBuilt inputsAbsent inputsCheck next walk winner phaseOk wellFormed seen phaseAfter opensLater decides chosen grantedAfter ownerAfter lockAfter moved shown accepted stepOf
+favouring-run =
+    more {s' = parked 1 true} refl (more {s' = parked 2 false} refl (more {s' = parked 3 true} refl (more {s' = parked 4 false} refl (more {s' = parked 5 true} refl (more {s' = parked 6 false} refl (more {s' = parked 7 true} refl (more {s' = parked 8 false} refl (more {s' = parked 9 true} refl (more {s' = parked 10 false} refl (more {s' = parked 11 true} refl stop))))))))))
+
+pub favouring-is-shut-out : Promised favouring → ⊥
+favouring-is-shut-out = starved favouring (parked 11 true) favouring-run (unfold favouring-run handedBy in refl)
+
+untouching-run : Run (machineOf untouching) (resetState 2) eleven (parked 0 false)
+unfolding untouching high burstOf inputsTooLarge inputsNotBuilt inputsAbsent inputsCheck next walk winner phaseOk wellFormed seen phaseAfter opensLater decides chosen grantedAfter ownerAfter lockAfter moved shown accepted stepOf
+untouching-run =
+    more {s' = parked 0 false} refl (more {s' = parked 0 false} refl (more {s' = parked 0 false} refl (more {s' = parked 0 false} refl (more {s' = parked 0 false} refl (more {s' = parked 0 false} refl (more {s' = parked 0 false} refl (more {s' = parked 0 false} refl (more {s' = parked 0 false} refl (more {s' = parked 0 false} refl (more {s' = parked 0 false} refl stop))))))))))
+
+pub untouching-is-shut-out : Promised untouching → ⊥
+untouching-is-shut-out = starved untouching (parked 0 false) untouching-run (unfold untouching-run handedBy in refl)
+
+repeating-run : Run (machineOf repeating) (resetState 2) eleven (parked 11 false)
+unfolding repeating high burstOf inputsTooLarge inputsNotBuilt inputsAbsent inputsCheck next walk winner phaseOk wellFormed seen phaseAfter opensLater decides chosen grantedAfter ownerAfter lockAfter moved shown accepted stepOf
+repeating-run =
+    more {s' = parked 1 true} refl (more {s' = parked 2 false} refl (more {s' = parked 3 false} refl (more {s' = parked 4 false} refl (more {s' = parked 5 false} refl (more {s' = parked 6 false} refl (more {s' = parked 7 false} refl (more {s' = parked 8 false} refl (more {s' = parked 9 false} refl (more {s' = parked 10 false} refl (more {s' = parked 11 false} refl stop))))))))))
+
+pub repeating-is-shut-out : Promised repeating → ⊥
+repeating-is-shut-out = starved repeating (parked 11 false) repeating-run (unfold repeating-run handedBy in refl)

@@ -1,0 +1,11 @@
+pub mod Rows
+pub mod Counts
+pub mod Watches
+pub mod Exact
+pub mod Soundness
+pub mod WellFormed
+pub mod Answers
+pub mod Whole
+pub mod Listed
+pub mod Promises
+pub mod Examples
