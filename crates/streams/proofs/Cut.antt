@@ -1,0 +1,114 @@
+-- Wherever the blocks are cut, the same bytes are written.
+--
+--   enough         == more turns than there are bytes write no more
+--   cut            == a whole block, and then the rest
+--   tail           == a last block, which may be cut, and then the end
+--   in-blocks      == any number of whole blocks and a last one
+use Prim.Native.Nat.{ℕ, zero, suc, _+_, _-_, _*_, _≤_, _<_}
+use mathlib.Core.Path.{_≡_, refl, sym, _∙_, ap, subst}
+use mathlib.Core.List.{List, [], _∷_, _++_, append-assoc}
+use native.Mathlib.Omega.{arith}
+use lib.ListN.{length, drop, length-append, length-drop}
+use lib.Seq.{drop-append-le}
+use Rattle.streams.specs.Streams.{Turn, goes, stops, onward, written, Stretch, on, done, before, step, unlessEmpty, stretch, then}
+use Rattle.streams.specs.Blocks.{Whole, ByLines, joined, inBlocks, AllWhole}
+
+module _ {S : Type 0} (turn : S → List ℕ → Turn S) (w : ℕ) (L : ByLines w turn) where
+  pub enough : (k k' : ℕ) (s : S) (rest : List ℕ) → length rest < k → length rest < k' → written turn k s rest ≡ written turn k' s rest
+  unfolding written
+  enough zero k' s rest h h' = absurd (omega arith)
+  enough (suc k) zero s rest h h' = absurd (omega arith)
+  enough (suc k) (suc k') s rest h h' = go (turn s rest) refl (λ t n l. enough k k' t (drop n rest) l)
+    where
+      go : (a : Turn S) → turn s rest ≡ a → ((t : S) (n : ℕ) → length (drop n rest) < k → length (drop n rest) < k' → written turn k t (drop n rest) ≡ written turn k' t (drop n rest))
+          → onward (turn s rest) (λ t n. written turn k t (drop n rest)) ≡ onward (turn s rest) (λ t n. written turn k' t (drop n rest))
+      go (goes bytes t n) e later =
+          let p = L .next s rest bytes t n e in
+          let f = L .some in
+          rw e (ap (λ (l : List ℕ). bytes ++ l) (later t n (simp length-drop (omega arith)) (simp length-drop (omega arith))))
+      go (stops bytes) e later = rw e
+
+  then-after : (more : S → List ℕ) (bytes : List ℕ) (t : Stretch S) → then more (before bytes t) ≡ bytes ++ then more t
+  then-after more bytes (on l s) = append-assoc bytes l (more s)
+  then-after more bytes (done l) = refl
+
+  not-empty : (block : List ℕ) (s : S) (t : Stretch S) → 0 < length block → unlessEmpty block s t ≡ t
+  not-empty [] s t h = absurd (omega arith)
+  not-empty (b ∷ block) s t h = refl
+
+  nothing : (a : List ℕ) → length a ≡ 0 → a ≡ []
+  nothing [] h = refl
+  nothing (b ∷ a) h = absurd (omega arith)
+
+  -- a whole block of m lines, and then the rest
+  pub cut : (m : ℕ) (k k' f : ℕ) (s : S) (a b : List ℕ) → length a ≡ m * w → length a + length b < k → length b < k' → length a ≤ f
+      → written turn k s (a ++ b) ≡ then (λ t. written turn k' t b) (stretch turn f s a)
+  unfolding written stretch
+  cut zero k k' f s a b size h h' l =
+      let e = nothing a (omega arith) in
+      rw e (empty f)
+    where
+      empty : (f : ℕ) → written turn k s b ≡ then (λ t. written turn k' t b) (stretch turn f s [])
+      empty zero = enough k k' s b (omega arith) h'
+      empty (suc f) = enough k k' s b (omega arith) h'
+  cut (suc m) zero k' f s a b size h h' l = absurd (omega arith)
+  cut (suc m) (suc k) k' zero s a b size h h' l = absurd (omega (arith, L .some, long))
+    where
+      long : length a ≡ m * w + w
+      long = size ∙ omega arith
+  cut (suc m) (suc k) k' (suc f) s a b size h h' l =
+      rw (L .near s a b (omega (arith, long)), not-empty a s (step (turn s a) (λ t n. stretch turn f t (drop n a))) (omega (arith, long, L .some)))
+      (go (turn s a) refl (λ t n g. cut m k k' f t (drop n a) b g))
+    where
+      long : length a ≡ m * w + w
+      long = size ∙ omega arith
+
+      go : (x : Turn S) → turn s a ≡ x
+          → ((t : S) (n : ℕ) → length (drop n a) ≡ m * w → length (drop n a) + length b < k → length b < k' → length (drop n a) ≤ f
+          → written turn k t (drop n a ++ b) ≡ then (λ t. written turn k' t b) (stretch turn f t (drop n a)))
+          → onward (turn s a) (λ t n. written turn k t (drop n (a ++ b))) ≡ then (λ t. written turn k' t b) (step (turn s a) (λ t n. stretch turn f t (drop n a)))
+      go (goes bytes t n) e later =
+          let p = L .next s a bytes t n e in
+          let pos = L .some in
+          let q : drop n (a ++ b) ≡ drop n a ++ b = drop-append-le n a b (omega arith) in
+          rw (e, q, then-after (λ t. written turn k' t b) bytes (stretch turn f t (drop n a)))
+          (ap (λ (l : List ℕ). bytes ++ l)
+          (later t n (simp length-drop (omega (arith, long))) (simp length-drop (omega arith)) h' (simp length-drop (omega arith))))
+      go (stops bytes) e later = rw e
+
+  -- the last block ends the input
+  pub tail : (f k : ℕ) (s : S) (rest : List ℕ) → length rest < k → length rest ≤ f
+      → written turn k s rest ≡ then (λ t. written turn 1 t []) (stretch turn f s rest)
+  unfolding stretch
+  tail zero k s rest h l =
+      let e = nothing rest (omega arith) in
+      rw e (enough k 1 s [] (omega arith) (omega arith))
+  tail (suc f) k s [] h l = enough k 1 s [] h (omega arith)
+  tail (suc f) zero s (b ∷ rest) h l = absurd (omega arith)
+  tail (suc f) (suc k) s (b ∷ rest) h l = go (turn s (b ∷ rest)) refl (λ t n. tail f k t (drop n (b ∷ rest)))
+    where
+      go : (x : Turn S) → turn s (b ∷ rest) ≡ x
+          → ((t : S) (n : ℕ) → length (drop n (b ∷ rest)) < k → length (drop n (b ∷ rest)) ≤ f
+          → written turn k t (drop n (b ∷ rest)) ≡ then (λ t. written turn 1 t []) (stretch turn f t (drop n (b ∷ rest))))
+          → written turn (suc k) s (b ∷ rest) ≡ then (λ t. written turn 1 t []) (step (turn s (b ∷ rest)) (λ t n. stretch turn f t (drop n (b ∷ rest))))
+      go (goes bytes t n) e later =
+          let p = L .next s (b ∷ rest) bytes t n e in
+          let pos = L .some in
+          unfold written in
+          rw (e, then-after (λ t. written turn 1 t []) bytes (stretch turn f t (drop n (b ∷ rest))))
+          (ap (λ (l : List ℕ). bytes ++ l) (later t n (simp length-drop (omega arith)) (simp length-drop (omega arith))))
+      go (stops bytes) e later = unfold written in rw e
+
+  then-same : (f g : S → List ℕ) → ((s : S) → f s ≡ g s) → (t : Stretch S) → then f t ≡ then g t
+  then-same f g e (on l s) = ap (λ (r : List ℕ). l ++ r) (e s)
+  then-same f g e (done l) = refl
+
+  pub in-blocks : (blocks : List (List ℕ)) (last : List ℕ) → AllWhole w blocks → (k : ℕ) (s : S) → length (joined blocks last) < k
+      → written turn k s (joined blocks last) ≡ inBlocks turn s blocks last
+  unfolding joined inBlocks
+  in-blocks [] last h k s l = tail (length last) k s last l (omega arith)
+  in-blocks (a ∷ blocks) last h k s l =
+      let size = length-append a (joined blocks last) in
+      let k' = suc (length (joined blocks last)) in
+      cut (h .0 .lines) k k' (length a) s a (joined blocks last) (h .0 .size) (omega arith) (omega arith) (omega arith)
+      ∙ then-same (λ t. written turn k' t (joined blocks last)) (λ t. inBlocks turn t blocks last) (λ t. in-blocks blocks last (h .1) k' t (omega arith)) (stretch turn (length a) s a)

@@ -1,0 +1,6 @@
+-- What the two programs write, as functions of all the bytes that they read, and block by block.
+pub mod Streams
+pub mod Arbiter
+pub mod Judging
+pub mod Blocks
+pub mod Promises
