@@ -7,4 +7,5 @@ pub mod Taken
 pub mod Decision
 pub mod Total
 pub mod Kept
+pub mod Shown
 pub mod Cases

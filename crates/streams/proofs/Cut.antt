@@ -30,7 +30,7 @@ module _ {S : Type 0} (turn : S → List ℕ → Turn S) (w : ℕ) (L : ByLines 
 
   then-after : (more : S → List ℕ) (bytes : List ℕ) (t : Stretch S) → then more (before bytes t) ≡ bytes ++ then more t
   then-after more bytes (on l s) = append-assoc bytes l (more s)
-  then-after more bytes (done l) = refl
+  then-after more bytes (done l s) = refl
 
   not-empty : (block : List ℕ) (s : S) (t : Stretch S) → 0 < length block → unlessEmpty block s t ≡ t
   not-empty [] s t h = absurd (omega arith)
@@ -57,7 +57,7 @@ module _ {S : Type 0} (turn : S → List ℕ → Turn S) (w : ℕ) (L : ByLines 
       long : length a ≡ m * w + w
       long = size ∙ omega arith
   cut (suc m) (suc k) k' (suc f) s a b size h h' l =
-      rw (L .near s a b (omega (arith, long)), not-empty a s (step (turn s a) (λ t n. stretch turn f t (drop n a))) (omega (arith, long, L .some)))
+      rw (L .near s a b (omega (arith, long)), not-empty a s (step s (turn s a) (λ t n. stretch turn f t (drop n a))) (omega (arith, long, L .some)))
       (go (turn s a) refl (λ t n g. cut m k k' f t (drop n a) b g))
     where
       long : length a ≡ m * w + w
@@ -66,7 +66,7 @@ module _ {S : Type 0} (turn : S → List ℕ → Turn S) (w : ℕ) (L : ByLines 
       go : (x : Turn S) → turn s a ≡ x
           → ((t : S) (n : ℕ) → length (drop n a) ≡ m * w → length (drop n a) + length b < k → length b < k' → length (drop n a) ≤ f
           → written turn k t (drop n a ++ b) ≡ then (λ t. written turn k' t b) (stretch turn f t (drop n a)))
-          → onward (turn s a) (λ t n. written turn k t (drop n (a ++ b))) ≡ then (λ t. written turn k' t b) (step (turn s a) (λ t n. stretch turn f t (drop n a)))
+          → onward (turn s a) (λ t n. written turn k t (drop n (a ++ b))) ≡ then (λ t. written turn k' t b) (step s (turn s a) (λ t n. stretch turn f t (drop n a)))
       go (goes bytes t n) e later =
           let p = L .next s a bytes t n e in
           let pos = L .some in
@@ -90,7 +90,7 @@ module _ {S : Type 0} (turn : S → List ℕ → Turn S) (w : ℕ) (L : ByLines 
       go : (x : Turn S) → turn s (b ∷ rest) ≡ x
           → ((t : S) (n : ℕ) → length (drop n (b ∷ rest)) < k → length (drop n (b ∷ rest)) ≤ f
           → written turn k t (drop n (b ∷ rest)) ≡ then (λ t. written turn 1 t []) (stretch turn f t (drop n (b ∷ rest))))
-          → written turn (suc k) s (b ∷ rest) ≡ then (λ t. written turn 1 t []) (step (turn s (b ∷ rest)) (λ t n. stretch turn f t (drop n (b ∷ rest))))
+          → written turn (suc k) s (b ∷ rest) ≡ then (λ t. written turn 1 t []) (step s (turn s (b ∷ rest)) (λ t n. stretch turn f t (drop n (b ∷ rest))))
       go (goes bytes t n) e later =
           let p = L .next s (b ∷ rest) bytes t n e in
           let pos = L .some in
@@ -101,7 +101,7 @@ module _ {S : Type 0} (turn : S → List ℕ → Turn S) (w : ℕ) (L : ByLines 
 
   then-same : (f g : S → List ℕ) → ((s : S) → f s ≡ g s) → (t : Stretch S) → then f t ≡ then g t
   then-same f g e (on l s) = ap (λ (r : List ℕ). l ++ r) (e s)
-  then-same f g e (done l) = refl
+  then-same f g e (done l s) = refl
 
   pub in-blocks : (blocks : List (List ℕ)) (last : List ℕ) → AllWhole w blocks → (k : ℕ) (s : S) → length (joined blocks last) < k
       → written turn k s (joined blocks last) ≡ inBlocks turn s blocks last

@@ -3,11 +3,21 @@
 --   Whole w a          == the block a is a whole number of lines of w bytes
 --   ByLines w turn     == a turn looks at no more than the first w bytes of its input, goes on only after them, and stops where nothing is left
 --   inBlocks turn s blocks last == what is written block by block; the last one ends the input, and may be cut
-use Prim.Native.Nat.{ℕ, suc, _*_, _≤_, _<_}
+--   arbiterBlockOf, arbiterBlockLeft, judgeBlockOf, judgeBlockLeft == the answers of the calls that take one block, and the buffer afterwards
+use Prim.Native.Nat.{ℕ, _+_, _*_, _/_, _≤_}
 use mathlib.Core.Path.{_≡_}
+use mathlib.Core.Bool.{cond}
 use mathlib.Core.List.{List, [], _∷_, _++_}
-use lib.ListN.{length}
-use Rattle.streams.specs.Streams.{Turn, goes, stops, written, Stretch, stretch, then}
+use lib.Dec.{ltb}
+use lib.ListN.{length, drop}
+use Rattle.rules.specs.declared.State.{State}
+use Rattle.streams.specs.declared.Flow.the-variants.{GoesOn, Stopped, Short}
+use Rattle.streams.specs.declared.ArbiterStretch.{ArbiterStretch}
+use Rattle.streams.specs.declared.Bench.{Bench}
+use Rattle.streams.specs.declared.JudgeStretch.{JudgeStretch}
+use Rattle.streams.specs.Streams.{Turn, goes, stops, written, Stretch, on, done, stretch, then}
+use Rattle.streams.specs.Arbiter.{arbiterTurn}
+use Rattle.streams.specs.Judging.{judgeTurn}
 
 pub record Whole (w : ℕ) (a : List ℕ) : Type 0 where
   pub lines : ℕ
@@ -34,3 +44,52 @@ module _ {S : Type 0} (turn : S → List ℕ → Turn S) where
 abbrev pub AllWhole : ℕ → List (List ℕ) → Type 0
 AllWhole w [] = Unit {0}
 AllWhole w (a ∷ blocks) = Whole w a × AllWhole w blocks
+
+-- The calls that take one block each. The lent buffer has room for what the longest lines can write: most bytes for each line of w bytes that
+-- begins in the block, and for one line more.
+unfoldable pub roomFor : ℕ → ℕ → List ℕ → ℕ
+roomFor w most block = (length block / w + 1) * most
+
+abbrev pub bytesOf : {S : Type 0} → Stretch S → List ℕ
+bytesOf (on bytes s) = bytes
+bytesOf (done bytes s) = bytes
+
+-- the buffer afterwards: what was written, and the rest untouched; all untouched where it is too short
+abbrev pub leftBy : {S : Type 0} → ℕ → Stretch S → List ℕ → List ℕ
+leftBy room t buffer = cond (ltb (length buffer) room) buffer (bytesOf t ++ drop (length (bytesOf t)) buffer)
+
+-- a trace line has 31 bytes, and no refusal line is longer
+abbrev pub arbiterRoom : List ℕ → ℕ
+arbiterRoom block = roomFor 16 31 block
+
+abbrev pub asArbiter : Stretch State → ArbiterStretch
+asArbiter (on bytes s) = record { written = length bytes; flow = GoesOn; state = s }
+asArbiter (done bytes s) = record { written = length bytes; flow = Stopped; state = s }
+
+abbrev pub arbiterStretch : State → List ℕ → Stretch State
+arbiterStretch s block = stretch arbiterTurn (length block) s block
+
+unfoldable pub arbiterBlockOf : State → List ℕ → ℕ → ArbiterStretch
+arbiterBlockOf s block room =
+    cond (ltb room (arbiterRoom block)) (record { written = 0; flow = Short; state = s }) (asArbiter (arbiterStretch s block))
+
+unfoldable pub arbiterBlockLeft : State → List ℕ → List ℕ → List ℕ
+arbiterBlockLeft s block buffer = leftBy (arbiterRoom block) (arbiterStretch s block) buffer
+
+-- 21 breach lines of at most ten digits, a tab, a name of three characters and LF; no other line is longer
+abbrev pub judgeRoom : List ℕ → ℕ
+judgeRoom block = roomFor 31 315 block
+
+abbrev pub asJudge : Stretch Bench → JudgeStretch
+asJudge (on bytes b) = record { written = length bytes; flow = GoesOn; bench = b }
+asJudge (done bytes b) = record { written = length bytes; flow = Stopped; bench = b }
+
+abbrev pub judgeStretch : Bench → List ℕ → Stretch Bench
+judgeStretch b block = stretch judgeTurn (length block) b block
+
+unfoldable pub judgeBlockOf : Bench → List ℕ → ℕ → JudgeStretch
+judgeBlockOf b block room =
+    cond (ltb room (judgeRoom block)) (record { written = 0; flow = Short; bench = b }) (asJudge (judgeStretch b block))
+
+unfoldable pub judgeBlockLeft : Bench → List ℕ → List ℕ → List ℕ
+judgeBlockLeft b block buffer = leftBy (judgeRoom block) (judgeStretch b block) buffer

@@ -2,7 +2,8 @@
 --
 --   Turn S             == one line's doing: it writes some bytes and goes on in the next state after so many bytes, or it writes and stops
 --   written turn k s rest == all that is written from the state s on, for the input that is left; k bounds the lines
---   Stretch S, stretch turn k s block == the same for a block of the input, at whose end there may be more to come
+--   Stretch S, stretch turn k s block == the same for a block of the input, at whose end there may be more to come; it ends in a state,
+--                         in which it goes on or has stopped
 --   then more t        == a stretch, and what is written after it
 use Prim.Native.Nat.{ℕ, zero, suc}
 use mathlib.Core.List.{List, [], _∷_, _++_}
@@ -24,16 +25,16 @@ module _ {S : Type 0} where
 
 pub data Stretch (S : Type 0) : Type 0 where
   on : List ℕ → S → Stretch S
-  done : List ℕ → Stretch S
+  done : List ℕ → S → Stretch S
 
 module _ {S : Type 0} where
   abbrev pub before : List ℕ → Stretch S → Stretch S
   before bytes (on more s) = on (bytes ++ more) s
-  before bytes (done more) = done (bytes ++ more)
+  before bytes (done more s) = done (bytes ++ more) s
 
-  abbrev pub step : Turn S → (S → ℕ → Stretch S) → Stretch S
-  step (goes bytes s next) more = before bytes (more s next)
-  step (stops bytes) more = done bytes
+  abbrev pub step : S → Turn S → (S → ℕ → Stretch S) → Stretch S
+  step s (goes bytes t next) more = before bytes (more t next)
+  step s (stops bytes) more = done bytes s
 
   -- where the block is used up, the rest of the input is in the next
   abbrev pub unlessEmpty : List ℕ → S → Stretch S → Stretch S
@@ -43,8 +44,8 @@ module _ {S : Type 0} where
   unfoldable pub stretch : (S → List ℕ → Turn S) → ℕ → S → List ℕ → Stretch S
   stretch turn zero s block = on [] s
   stretch turn (suc k) s block =
-      unlessEmpty block s (step (turn s block) (λ t next. stretch turn k t (drop next block)))
+      unlessEmpty block s (step s (turn s block) (λ t next. stretch turn k t (drop next block)))
 
   abbrev pub then : (S → List ℕ) → Stretch S → List ℕ
   then more (on bytes s) = bytes ++ more s
-  then more (done bytes) = bytes
+  then more (done bytes s) = bytes

@@ -2,10 +2,17 @@
 use rulebook::Judge;
 use rules::State;
 
-// The arbiter after a block: how many bytes it wrote, whether it stopped at a refusal, and its state.
+// How a block ended: all of it was used and more may come; the program stopped; or the lent buffer was too short (9).
+pub enum Flow {
+    GoesOn,
+    Stopped,
+    Short,
+}
+
+// The arbiter after a block: how many bytes it wrote, how the block ended, and its state.
 pub struct ArbiterStretch {
     pub written: usize,
-    pub stopped: bool,
+    pub flow: Flow,
     pub state: State,
 }
 
@@ -18,6 +25,6 @@ pub struct Bench {
 // The judging program after a block.
 pub struct JudgeStretch {
     pub written: usize,
-    pub stopped: bool,
+    pub flow: Flow,
     pub bench: Bench,
 }

@@ -1,0 +1,29 @@
+/* Numbers by their width, and unaligned words in memory, low byte first. No header of a C library is
+   needed: the baselines are compiled for x86-64 on machines that have none for it. */
+#ifndef BYTES_H
+#define BYTES_H
+
+typedef unsigned char u8;
+typedef unsigned int u32;
+typedef unsigned long u64;
+
+/* the byte b in each place of a word */
+#define EACH(b) (0x0101010101010101ul * (b))
+
+static inline u32 load4(const u8 *at) {
+    u32 word;
+    __builtin_memcpy(&word, at, 4);
+    return word;
+}
+
+static inline u64 load8(const u8 *at) {
+    u64 word;
+    __builtin_memcpy(&word, at, 8);
+    return word;
+}
+
+static inline void store4(u8 *at, u32 word) { __builtin_memcpy(at, &word, 4); }
+
+static inline void store8(u8 *at, u64 word) { __builtin_memcpy(at, &word, 8); }
+
+#endif

@@ -1,0 +1,44 @@
+/* Short texts and decimal numbers, the line of a refusal, and the reading of a header. */
+#ifndef TEXT_H
+#define TEXT_H
+
+#include "blocks.h"
+
+static void put_text(struct output *out, const char *text) {
+    u8 *at = room(out, 16);
+    while (*text) *at++ = (u8)*text++;
+    fit(out, at);
+}
+
+static void put_decimal(struct output *out, u32 number) {
+    u8 *at = room(out, 16);
+    u32 ten = 1;
+    while (number / 10 >= ten) ten *= 10;
+    for (; ten; ten /= 10) *at++ = (u8)('0' + number / ten % 10);
+    fit(out, at);
+}
+
+static void put_refusal(struct output *out, u32 line, u32 refusal) {
+    put_text(out, "refused\t");
+    put_decimal(out, line);
+    put_text(out, "\t");
+    put_decimal(out, refusal);
+    put_text(out, "\n");
+}
+
+/* Takes the header that starts with the given bytes; answers 0, 1 or 2. */
+static u32 take_header(struct input *in, const char *start, u32 *n) {
+    const u8 *at = in->bytes + in->at, *end = in->bytes + in->end;
+    for (; *start; start++)
+        if (at == end || *at++ != (u8)*start) return 2;
+    u32 digits = 0, number = 0;
+    for (; at != end && *at >= '0' && *at <= '9' && digits < 3; digits++) number = number * 10 + (*at++ - '0');
+    if (digits < 1 || digits > 2 || (digits == 2 && number < 10)) return 2;
+    if (at == end || *at++ != '\n') return 2;
+    if (number < 2 || number > 16) return 1;
+    *n = number;
+    in->at = (u64)(at - in->bytes);
+    return 0;
+}
+
+#endif
