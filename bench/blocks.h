@@ -22,7 +22,7 @@ struct output {
 };
 
 /* Moves what is left to the front and reads on until the block is full or the input ends. */
-static void fill(struct input *in) {
+static inline void fill(struct input *in) {
     u64 left = in->end - in->at;
     __builtin_memmove(in->bytes, in->bytes + in->at, left);
     in->at = 0;
@@ -35,7 +35,7 @@ static void fill(struct input *in) {
 }
 
 /* Writes all that waits; what cannot be written is dropped. */
-static void flush(struct output *out) {
+static inline void flush(struct output *out) {
     u64 done = 0;
     while (done < out->end) {
         long put = write(1, out->bytes + done, out->end - done);

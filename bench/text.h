@@ -4,13 +4,13 @@
 
 #include "blocks.h"
 
-static void put_text(struct output *out, const char *text) {
+static inline void put_text(struct output *out, const char *text) {
     u8 *at = room(out, 16);
     while (*text) *at++ = (u8)*text++;
     fit(out, at);
 }
 
-static void put_decimal(struct output *out, u32 number) {
+static inline void put_decimal(struct output *out, u32 number) {
     u8 *at = room(out, 16);
     u32 ten = 1;
     while (number / 10 >= ten) ten *= 10;
@@ -18,7 +18,7 @@ static void put_decimal(struct output *out, u32 number) {
     fit(out, at);
 }
 
-static void put_refusal(struct output *out, u32 line, u32 refusal) {
+static inline void put_refusal(struct output *out, u32 line, u32 refusal) {
     put_text(out, "refused\t");
     put_decimal(out, line);
     put_text(out, "\t");
@@ -27,7 +27,7 @@ static void put_refusal(struct output *out, u32 line, u32 refusal) {
 }
 
 /* Takes the header that starts with the given bytes; answers 0, 1 or 2. */
-static u32 take_header(struct input *in, const char *start, u32 *n) {
+static inline u32 take_header(struct input *in, const char *start, u32 *n) {
     const u8 *at = in->bytes + in->at, *end = in->bytes + in->end;
     for (; *start; start++)
         if (at == end || *at++ != (u8)*start) return 2;

@@ -1,4 +1,5 @@
--- The lines of document 01: digits, columns, lines, headers, the report, and whole files.
+-- The lines of document 01: digits, columns, lines, headers, the report, and whole files; texts to compare with the page, and
+-- what is promised of them all.
 pub mod Digits
 pub mod Columns
 pub mod Fields
@@ -6,3 +7,5 @@ pub mod Lines
 pub mod Headers
 pub mod Report
 pub mod Files
+pub mod Texts
+pub mod Promises
