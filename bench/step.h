@@ -1,0 +1,16 @@
+/* The host's two calls: the product's and the plain ones, with the same meaning. */
+#ifndef STEP_H
+#define STEP_H
+
+#include "bytes.h"
+
+enum { STATE_BYTES = 12, LINE_BYTES = 31 };
+
+typedef u32 reset_call(u32 n, u8 *state, u64 state_len);
+typedef u32 step_call(u32 hbusreq, u32 hlock, u32 hready, u32 htrans, u32 hburst, u8 *state, u64 state_len, u8 *line,
+                      u64 line_len);
+
+extern reset_call plain_reset, espigambre_reset;
+extern step_call plain_step, espigambre_step;
+
+#endif
