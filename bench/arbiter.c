@@ -13,7 +13,7 @@ static inline void put_trace(u8 *at, const u8 *line, u32 g, const struct cycle *
 }
 
 /* Takes the whole lines of a block; answers 0 or the refusal of the line after `count` cycles. */
-static u32 take_block(u32 n, struct arbiter *state, u32 *count) {
+APART u32 take_block(u32 n, struct arbiter *state, u32 *count) {
     struct arbiter a = *state;
     u32 refusal = 0, cycles = *count;
     const u8 *line = in.bytes + in.at, *end = in.bytes + in.end;

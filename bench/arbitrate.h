@@ -16,7 +16,7 @@ struct arbiter {
 static const struct arbiter RESET = {0, 0, 0, 0, FRESH};
 
 /* The phase after a cycle with GRANTED low. */
-static inline u32 phase_after(const struct arbiter *a, const struct cycle *c) {
+INLINE u32 phase_after(const struct arbiter *a, const struct cycle *c) {
     u32 first = c->hready & (c->htrans == NONSEQ), open = (c->hburst == INCR) & a->hmastlock;
     u32 opened = c->hburst == INCR4 ? 3 : open ? OPEN : DONE;
     u32 fresh = first ? opened : FRESH;
@@ -26,13 +26,13 @@ static inline u32 phase_after(const struct arbiter *a, const struct cycle *c) {
 }
 
 /* The first requester after g, around to g itself; 0 if there is none. */
-static inline u32 winner(u32 hbusreq, u32 g) {
+INLINE u32 winner(u32 hbusreq, u32 g) {
     u32 above = hbusreq & 0xfffeu << g;
     return (u32)__builtin_ctz(above | hbusreq << 16 | 1u << 31) & 15 & -(u32)(hbusreq != 0);
 }
 
 /* Takes the five inputs of c, fills in its other columns, and moves the state on. */
-static inline void arbitrate(struct arbiter *a, struct cycle *c) {
+INLINE void arbitrate(struct arbiter *a, struct cycle *c) {
     struct arbiter s = *a;
     u32 after = phase_after(&s, c), handover = s.granted & c->hready;
     u32 inside = after - 1 < OPEN, locked = s.hmastlock & c->hlock >> s.m;

@@ -13,7 +13,7 @@ static const char names[RULES][6] = {"\tA1\n", "\tA2\n", "\tA3\n", "\tA4\n", "\t
                                      "\tG6\n", "\tG7\n", "\tG8\n", "\tG9\n", "\tG10\n", "\tG11\n", "\tG12\n"};
 
 /* A line for each rule charged at a cycle. */
-static __attribute__((noinline)) void put_breaches(u32 cycle, u32 charged) {
+APART void put_breaches(u32 cycle, u32 charged) {
     for (; charged; charged &= charged - 1, breaches++) {
         put_decimal(&out, cycle);
         put_text(&out, names[__builtin_ctz(charged)]);
@@ -21,7 +21,7 @@ static __attribute__((noinline)) void put_breaches(u32 cycle, u32 charged) {
 }
 
 /* Takes the whole lines of a block; answers 0 or the refusal of the line after the cycles so far. */
-static u32 take_block(struct judge *state) {
+APART u32 take_block(struct judge *state) {
     struct judge j = *state;
     u32 refusal = 0;
     const u8 *line = in.bytes + in.at, *end = in.bytes + in.end;
@@ -31,7 +31,7 @@ static u32 take_block(struct judge *state) {
         if (!refusal && j.count == LIMIT) refusal = 8;
         if (refusal) break;
         u32 charged = judge_cycle(&j, &t);
-        if (__builtin_expect(charged != 0, 0)) put_breaches(j.count - 1, charged);
+        if (RARELY(charged)) put_breaches(j.count - 1, charged);
     }
     in.at = (u64)(line - in.bytes);
     *state = j;

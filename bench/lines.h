@@ -15,30 +15,30 @@ struct cycle {
 };
 
 /* The first test that found something. */
-static inline u32 first_of(u64 bad3, u64 bad4, u64 bad5, u64 bad6, u64 bad7) {
+INLINE u32 first_of(u64 bad3, u64 bad4, u64 bad5, u64 bad6, u64 bad7) {
     return bad3 ? 3 : bad4 ? 4 : bad5 ? 5 : bad6 ? 6 : bad7 ? 7 : 0;
 }
 
 /* The places of eight characters that are not lower-case hex digits. Below 128 no sum carries; from
    128 on the character itself is marked. */
-static inline u64 not_hex(u64 text) {
+INLINE u64 not_hex(u64 text) {
     u64 digit = (text + EACH(0x80 - '0')) & ~(text + EACH(0x80 - ':'));
     u64 letter = (text + EACH(0x80 - 'a')) & ~(text + EACH(0x80 - 'g'));
     return (~(digit | letter) | text) & EACH(0x80);
 }
 
 /* The values of eight hex digits, each in its place. */
-static inline u64 hex_values(u64 text) { return (text & EACH(0x0f)) + 9 * (text >> 6 & EACH(0x01)); }
+INLINE u64 hex_values(u64 text) { return (text & EACH(0x0f)) + 9 * (text >> 6 & EACH(0x01)); }
 
 /* The numbers of two groups of four hex digits, in the low halves of the word's two halves. */
-static inline u64 two_masks(u64 text) {
+INLINE u64 two_masks(u64 text) {
     u64 values = hex_values(text);
     u64 pairs = (values << 4 | values >> 8) & 0x00ff00ff00ff00fful;
     return (pairs << 8 | pairs >> 16) & 0x0000ffff0000fffful;
 }
 
 /* HTRANS 1 and HBURST 2, 4, 5, 6, 7. */
-static inline u32 not_built(u32 htrans, u32 hburst) { return (htrans == 1) | (0xf4u >> hburst & 1); }
+INLINE u32 not_built(u32 htrans, u32 hburst) { return (htrans == 1) | (0xf4u >> hburst & 1); }
 
 /* The first five fields and the byte after them; `masters` joins the masks. */
 struct five {
@@ -46,7 +46,7 @@ struct five {
     u32 masters;
 };
 
-static inline struct five take_five(const u8 *line, u8 last, struct cycle *c) {
+INLINE struct five take_five(const u8 *line, u8 last, struct cycle *c) {
     struct five seen;
     u64 head = load8(line), tail = load8(line + 8);
     u64 masks = (u64)load4(line + 5) << 32 | load4(line);
@@ -65,15 +65,15 @@ static inline struct five take_five(const u8 *line, u8 last, struct cycle *c) {
 }
 
 /* Reads 16 bytes; answers 0 or a refusal. */
-static inline u32 take_stimulus(const u8 *line, u32 n, struct cycle *c) {
+INLINE u32 take_stimulus(const u8 *line, u32 n, struct cycle *c) {
     struct five seen = take_five(line, '\n', c);
     u64 bad6 = seen.masters >> n;
-    if (__builtin_expect(!(seen.bad3 | seen.bad4 | seen.bad5 | bad6), 1)) return 0;
-    return first_of(seen.bad3, seen.bad4, seen.bad5, bad6, 0);
+    if (RARELY(seen.bad3 | seen.bad4 | seen.bad5 | bad6)) return first_of(seen.bad3, seen.bad4, seen.bad5, bad6, 0);
+    return 0;
 }
 
 /* Reads 31 bytes; answers 0 or a refusal. */
-static inline u32 take_trace(const u8 *line, u32 n, struct cycle *c) {
+INLINE u32 take_trace(const u8 *line, u32 n, struct cycle *c) {
     struct five seen = take_five(line, '\t', c);
     u64 owner = load8(line + 16), flags = load8(line + 23);
     /* the five digits of HGRANT and HMASTER, with 0 in the other places */
@@ -88,19 +88,19 @@ static inline u32 take_trace(const u8 *line, u32 n, struct cycle *c) {
     c->granted = flags >> 32 & 1;
     c->busreq = flags >> 48 & 1;
     u64 bad6 = (seen.masters | c->hgrant) >> n, bad7 = c->hmaster >= n;
-    if (__builtin_expect(!(bad3 | bad4 | seen.bad5 | bad6 | bad7), 1)) return 0;
-    return first_of(bad3, bad4, seen.bad5, bad6, bad7);
+    if (RARELY(bad3 | bad4 | seen.bad5 | bad6 | bad7)) return first_of(bad3, bad4, seen.bad5, bad6, bad7);
+    return 0;
 }
 
 /* Four hex digits as they stand in a line. */
-static inline u32 hex4(u32 mask) {
+INLINE u32 hex4(u32 mask) {
     u32 digits = mask >> 12 | (mask & 0x0f00) | (mask & 0x00f0) << 12 | (mask & 0x000f) << 24;
     u32 letters = (digits + 0x06060606) >> 4 & 0x01010101;
     return digits + 0x30303030 + letters * ('a' - 10 - '0');
 }
 
 /* The first five fields and the byte after them, 16 bytes. */
-static inline void put_five(u8 *at, const struct cycle *c, u8 last) {
+INLINE void put_five(u8 *at, const struct cycle *c, u8 last) {
     store4(at, hex4(c->hbusreq));
     at[4] = '\t';
     store4(at + 5, hex4(c->hlock));
@@ -111,7 +111,7 @@ static inline void put_five(u8 *at, const struct cycle *c, u8 last) {
 }
 
 /* The last six fields, 16 bytes from the tab before HGRANT, which has the single bit g. */
-static inline void put_six(u8 *at, u32 g, const struct cycle *c) {
+INLINE void put_six(u8 *at, u32 g, const struct cycle *c) {
     u64 grant = (u64)(1u << (g & 3)) << (32 - 8 * (g >> 2));
     u64 owner = c->hmaster + (c->hmaster > 9 ? 'a' - 10 : '0');
     u64 flags = c->hmastlock | c->decide << 16 | (u64)c->granted << 32 | (u64)c->busreq << 48;

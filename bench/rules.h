@@ -18,30 +18,30 @@ struct judge {
 };
 
 /* The bit of a rule, if it is charged. */
-static inline u32 charge(u32 rule, u32 holds) { return holds << rule; }
+INLINE u32 charge(u32 rule, u32 holds) { return holds << rule; }
 
-static inline u32 low(u32 flag) { return flag ^ 1; }
+INLINE u32 low(u32 flag) { return flag ^ 1; }
 
 /* HBUSREQ of HMASTER. */
-static inline u32 owners_request(const struct cycle *c) { return c->hbusreq >> c->hmaster & 1; }
+INLINE u32 owners_request(const struct cycle *c) { return c->hbusreq >> c->hmaster & 1; }
 
-static inline u32 is_handover(const struct cycle *c) { return c->granted & c->hready; }
+INLINE u32 is_handover(const struct cycle *c) { return c->granted & c->hready; }
 
 /* A row goes on or ends; a full one is charged and starts again. */
-static inline u32 row(u32 *length, u32 goes_on, u32 full) {
+INLINE u32 row(u32 *length, u32 goes_on, u32 full) {
     u32 next = goes_on ? *length + 1 : 0, charged = next == full;
     *length = charged ? 0 : next;
     return charged;
 }
 
 /* A1 and A2. */
-static inline u32 rows(struct judge *j, const struct cycle *t) {
+INLINE u32 rows(struct judge *j, const struct cycle *t) {
     u32 locked = t->hmastlock & (t->hburst == INCR) & owners_request(t);
     return charge(A1, row(&j->locked_row, locked, 1024)) | charge(A2, row(&j->waiting_row, low(t->hready), 17));
 }
 
 /* G2 and G3: the watch of this access, and its opening. */
-static inline u32 watches(struct judge *j, const struct cycle *t) {
+INLINE u32 watches(struct judge *j, const struct cycle *t) {
     u32 request = owners_request(t), handover = is_handover(t), watch = j->watch;
     u32 g2 = (watch == WATCH_G2) & request & handover, g3 = (watch - 2 < 2) & handover;
     u32 first = t->hready & (t->htrans == NONSEQ) & low(j->opened);
@@ -54,7 +54,7 @@ static inline u32 watches(struct judge *j, const struct cycle *t) {
 }
 
 /* G11: each master that asked and was not granted has lost once more. */
-static inline u32 losses(struct judge *j, u32 losers) {
+INLINE u32 losses(struct judge *j, u32 losers) {
     static const unsigned short bit[16] = {1,      2,      4,      8,      0x10,   0x20,   0x40,   0x80,
                                            0x0100, 0x0200, 0x0400, 0x0800, 0x1000, 0x2000, 0x4000, 0x8000};
     u8 full = (u8)j->n, any = 0;
@@ -67,7 +67,7 @@ static inline u32 losses(struct judge *j, u32 losers) {
 }
 
 /* The rules that compare the previous cycle with this one, but for G11. */
-static inline u32 pair(const struct cycle *p, const struct cycle *t) {
+INLINE u32 pair(const struct cycle *p, const struct cycle *t) {
     u32 handover = is_handover(p), asked = p->hbusreq != 0, first = t->hgrant & 1;
     u32 at_rest = ~(p->hbusreq | p->hlock), unasked = ~(p->hbusreq | p->hgrant | 1);
     u32 moved = (p->htrans != t->htrans) | (p->hburst != t->hburst);
@@ -88,14 +88,14 @@ static inline u32 pair(const struct cycle *p, const struct cycle *t) {
 }
 
 /* A9 and G12. */
-static inline u32 first_cycle(const struct cycle *t) {
+INLINE u32 first_cycle(const struct cycle *t) {
     u32 inputs = t->hbusreq | t->hlock | t->hready | t->htrans | t->hburst;
     u32 reset = (t->hgrant == 1) & (t->hmaster == 0) & low(t->hmastlock) & low(t->granted);
     return charge(A9, inputs != 0) | charge(G12, low(reset) | (low(t->decide) & (t->htrans == IDLE)));
 }
 
 /* Moves the judge over one cycle; answers the rules charged there. */
-static inline u32 judge_cycle(struct judge *j, const struct cycle *t) {
+INLINE u32 judge_cycle(struct judge *j, const struct cycle *t) {
     u32 charged = rows(j, t) | watches(j, t);
     charged |= charge(A8, (t->hbusreq == 0) & (t->htrans != IDLE));
     charged |= charge(G1, t->busreq ^ owners_request(t));

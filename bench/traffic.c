@@ -86,7 +86,7 @@ int main(int words, char **word) {
     struct bus b = {RESET, {0}, number(word[1]), 0, 0};
     u32 cycles = number(word[2]);
     if (b.n < 2 || b.n > 16) return 2;
-    seed = EACH(0x9e) ^ number(word[3]) * 0x2545f4914f6cdd1dul;
+    seed = (EACH(0x9e) ^ number(word[3]) * 0x2545f4914f6cdd1dul) | 1;
     put_text(&out, "stim\t1\t");
     put_decimal(&out, b.n);
     put_text(&out, "\n");

@@ -23,7 +23,7 @@ use Rattle.rules.specs.Codes.{mostCycles}
 use Rattle.rules.specs.Valid.{inputsCheck}
 use Rattle.rules.specs.State.{wellFormed}
 use Rattle.rules.specs.Phase.{seen, decides}
-use Rattle.rules.specs.Step.{chosen, moved, shown, answered, accepted, checked, stepOf}
+use Rattle.rules.specs.Step.{chosen, moved, shown, accepted, checked, stepOf}
 
 pub nobody : (s : State) (x : Inputs) (v : Seen) (d : Bool) (f : Found) → v ≡ seen s x → d ≡ decides s v → f ≡ chosen s x d → f ≡ Nothing
     → Refused Nobody s ≡ accepted s x

@@ -7,7 +7,7 @@
 --   numberAt w s p     == the number that the w characters at p write, and 16 ^ w where one of them is no hex digit
 --   decimal v          == the number v in decimal, with no leading zero
 use Prim.Native.Nat.{ℕ, zero, suc, _+_, _-_, _*_, _/_, _%_, _^_}
-use mathlib.Core.Bool.{Bool, cond}
+use mathlib.Core.Bool.{cond}
 use mathlib.Core.List.{List, [], _∷_, _++_}
 use lib.Dec.{ltb}
 use lib.ListN.{getD}

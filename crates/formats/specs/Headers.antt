@@ -6,7 +6,7 @@
 --   readHeaderOf w s   == the answer of reading a header of the word w at the start of s
 --   writeHeaderOf, headerWritten == the answer of writing one, and the buffer afterwards
 use Prim.Native.Nat.{ℕ, zero, suc, _+_, _-_, _*_}
-use mathlib.Core.Bool.{Bool, true, false, not, _&&_, cond}
+use mathlib.Core.Bool.{Bool, true, not, _&&_, cond}
 use mathlib.Core.List.{List, [], _∷_, _++_}
 use lib.Dec.{eqb, leb}
 use lib.ListN.{length, getD}

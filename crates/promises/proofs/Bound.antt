@@ -7,16 +7,15 @@
 --   not-too-many   == so a run in which the master is not handed the bus has not too many ready cycles
 --   bound          == the promise
 use Prim.Native.Nat.{ℕ, zero, suc, _+_, _-_, _*_, _≤_, _<_}
-use mathlib.Core.Path.{_≡_, refl, sym, _∙_, ap, subst}
+use mathlib.Core.Path.{_≡_, refl, ap, subst}
 use mathlib.Core.Bool.{Bool, true, false, _&&_, cond, true≢false, false≢true}
-use mathlib.Core.List.{List, [], _∷_}
+use mathlib.Core.List.{List}
 use native.Mathlib.Omega.{arith}
 use native.Mathlib.Nat.{mul-le-mul-left, mul-add}
 use borrow.Author.Tests.{eqb-false, lt-ltb}
 use lib.Dec.{eqb, ltb}
 use Rattle.rules.specs.declared.Inputs.{Inputs}
 use Rattle.rules.specs.Codes.{ready}
-use Rattle.rules.specs.Phase.{handover}
 use Rattle.rules.proofs.Choice.{differ}
 use Rattle.rules.proofs.Masks.{high-some}
 use Rattle.promises.specs.Machines.{Machine, InTurn}

@@ -3,21 +3,20 @@
 --   valid-trace    == every cycle of a run's trace is valid for n
 --   trace-length   == and there are not too many
 --   cleared        == the judge's verdict
-use Prim.Native.Nat.{ℕ, zero, suc, _+_, _≤_, _<_}
+use Prim.Native.Nat.{ℕ, zero, suc, _+_, _<_}
 use mathlib.Core.Path.{_≡_, refl, sym, _∙_, subst}
 use mathlib.Core.Bool.{true≢false}
-use mathlib.Core.List.{List, [], _∷_}
+use mathlib.Core.List.{List}
 use native.Mathlib.Omega.{arith}
 use lib.ListN.{length, getD}
 use Rattle.rules.specs.declared.Check.the-variants.{Good}
 use Rattle.rules.specs.declared.State.{State}
 use Rattle.rules.specs.declared.Inputs.{Inputs}
 use Rattle.rules.specs.declared.Outputs.{Outputs}
-use Rattle.rules.specs.declared.Cycle.{Cycle}
 use Rattle.rules.specs.Valid.{cycleCheck}
 use Rattle.rules.specs.Step.{stepOf}
 use Rattle.rules.proofs.WellFormed.{reset-is, reset-sound}
-use Rattle.rules.proofs.Taken.{Taken, taken, decide, next-n, next-count}
+use Rattle.rules.proofs.Taken.{taken, decide, next-n, next-count}
 use Rattle.rules.proofs.Kept.{kept}
 use Rattle.rules.proofs.Shown.{valid-shown}
 use Rattle.rulebook.specs.State.{noCycle}

@@ -3,7 +3,7 @@
 --   page-run       == the whole run that document 01 prints, with the trace that it prints
 --   worst-run      == with two masters and nobody locking, master 0 waits the full 5n = 10 ready cycles
 --   losing-run     == with three masters, master 0 requests at every decision and loses n - 1 = 2 in a row
-use Prim.Native.Nat.{ℕ, _+_, _*_, _/_, _%_, _^_, _-_}
+use Prim.Native.Nat.{ℕ}
 use mathlib.Core.Path.{_≡_, refl}
 use mathlib.Core.Bool.{Bool, true, false, false≢true}
 use mathlib.Core.List.{List, [], _∷_}
@@ -14,7 +14,6 @@ use Rattle.rules.specs.declared.State.{State}
 use Rattle.rules.specs.declared.Inputs.{Inputs}
 use Rattle.rules.specs.declared.Outputs.{Outputs}
 use Rattle.rules.specs.declared.Cycle.{Cycle}
-use Rattle.rules.specs.declared.Answer.the-variants.{Next}
 use Rattle.rules.specs.Codes.{burstOf}
 use Rattle.rules.specs.Masks.{high}
 use Rattle.rules.specs.Valid.{inputsTooLarge, inputsNotBuilt, inputsAbsent, inputsCheck}

@@ -3,10 +3,10 @@
 --   reached-sound  == every state that a run reaches is well formed, and has the n of its reset
 --   few-losses     == decisions lost in a row are no more than the turns
 --   one-win-each   == in such a stretch no master wins twice
-use Prim.Native.Nat.{ℕ, zero, suc, _+_, _-_, _≤_, _<_}
-use mathlib.Core.Path.{_≡_, refl, sym, _∙_, ap, subst}
-use mathlib.Core.Bool.{Bool, true, false, _&&_, cond, true≢false}
-use mathlib.Core.List.{List, [], _∷_}
+use Prim.Native.Nat.{ℕ, _+_, _≤_, _<_}
+use mathlib.Core.Path.{_≡_, refl, sym, _∙_, subst}
+use mathlib.Core.Bool.{Bool, true, false, _&&_, cond}
+use mathlib.Core.List.{List}
 use native.Mathlib.Omega.{arith}
 use borrow.Author.Tests.{eqb-true}
 use lib.Dec.{eqb}
@@ -14,13 +14,13 @@ use Rattle.rules.specs.declared.State.{State}
 use Rattle.rules.specs.declared.Inputs.{Inputs}
 use Rattle.rules.specs.State.{WellFormed}
 use Rattle.rules.specs.Step.{stepOf}
-use Rattle.rules.proofs.Winner.{turns, turns-below}
+use Rattle.rules.proofs.Winner.{turns}
 use Rattle.rules.proofs.WellFormed.{reset-is, reset-sound}
-use Rattle.rules.proofs.Taken.{Taken, taken, decide, next-n}
+use Rattle.rules.proofs.Taken.{taken, decide, next-n}
 use Rattle.rules.proofs.Kept.{kept}
 use Rattle.promises.specs.Machines.{arbiter}
 use Rattle.promises.specs.Runs.{Run, stop, more, Reached, decisions, wins, Loses}
-use Rattle.promises.proofs.Served.{turnsOf, loss-nearer, turns-kept, grant-kept}
+use Rattle.promises.proofs.Served.{turnsOf, loss-nearer, turns-kept}
 
 -- a state of a run of n masters
 pub record Sound (n : ℕ) (s : State) : Type 0 where

@@ -3,7 +3,7 @@
 --   cycleOf s x    == the cycle that the arbiter shows in the state s with the inputs x
 --   History n s h  == a run from reset with n masters that has shown the history h and stands in s
 --   shown-*        == what the columns of such a cycle say
-use Prim.Native.Nat.{ℕ, _+_, _<_}
+use Prim.Native.Nat.{ℕ}
 use mathlib.Core.Path.{_≡_, refl, sym, _∙_, ap, subst}
 use mathlib.Core.Bool.{Bool, true, false, _&&_}
 use mathlib.Core.List.{List, [], _∷_}
@@ -14,19 +14,15 @@ use Rattle.rules.specs.declared.State.{State}
 use Rattle.rules.specs.declared.Inputs.{Inputs}
 use Rattle.rules.specs.declared.Outputs.{Outputs}
 use Rattle.rules.specs.declared.Cycle.{Cycle}
-use Rattle.rules.specs.declared.Start.the-variants.{Ready}
 use Rattle.rules.specs.Codes.{ready}
 use Rattle.rules.specs.Masks.{high, single}
-use Rattle.rules.specs.State.{resetState, WellFormed}
 use Rattle.rules.specs.Phase.{seen, handover}
 use Rattle.rules.specs.Step.{flagOf, shown}
 use Rattle.rules.proofs.Masks.{high-single}
-use Rattle.rules.proofs.WellFormed.{Began, reset-is, reset-sound}
-use Rattle.rules.proofs.Taken.{Taken, taken, decide, next-n, next-count}
+use Rattle.rules.proofs.WellFormed.{Began, reset-sound}
+use Rattle.rules.proofs.Taken.{Taken, decide, next-n, next-count}
 use Rattle.rules.proofs.Kept.{kept}
-use Rattle.rulebook.specs.Columns.{decided, granted, locked, request, grant, ownersRequest, handover as handoverAt}
-use Rattle.promises.specs.Machines.{arbiter}
-use Rattle.promises.specs.Runs.{Run, stop, more, traceOf}
+use Rattle.rulebook.specs.Columns.{decided, granted, locked, grant, ownersRequest, handover as handoverAt}
 use Rattle.promises.proofs.Fair.{Sound}
 
 abbrev pub cycleOf : State → Inputs → Cycle

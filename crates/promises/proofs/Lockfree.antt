@@ -3,10 +3,10 @@
 --   longest        == that number: 5
 --   room g p       == the ready cycles that the access can still have, with GRANTED g and in the phase p
 --   short-accesses == so no access of a lock-free run has more than the longest
-use Prim.Native.Nat.{ℕ, zero, suc, _+_, _-_, _≤_, _<_}
-use mathlib.Core.Path.{_≡_, refl, sym, _∙_, ap, subst, subst₂}
+use Prim.Native.Nat.{ℕ, _+_, _-_, _≤_}
+use mathlib.Core.Path.{_≡_, refl, sym, _∙_, subst, subst₂}
 use mathlib.Core.Bool.{Bool, true, false, not, _&&_, cond, true≢false, false≢true, and-true}
-use mathlib.Core.List.{List, [], _∷_}
+use mathlib.Core.List.{List}
 use native.Mathlib.Omega.{arith}
 use borrow.Author.Tests.{leb-true, leb-false}
 use lib.Dec.{leb}
@@ -19,13 +19,13 @@ use Rattle.rules.specs.declared.Inputs.{Inputs}
 use Rattle.rules.specs.declared.Outputs.{Outputs}
 use Rattle.rules.specs.declared.Seen.{Seen}
 use Rattle.rules.specs.Codes.{longestBurst, ready}
-use Rattle.rules.specs.Masks.{high, someHigh}
+use Rattle.rules.specs.Masks.{high}
 use Rattle.rules.specs.State.{phaseOk}
 use Rattle.rules.specs.Phase.{seen, protected, phaseLow, phaseAfter, settled, isFresh, opensLater, decides}
 use Rattle.rules.specs.Step.{lockAfter}
 use Rattle.rules.proofs.Choice.{either, and-left, and-right}
 use Rattle.rules.proofs.Masks.{high-some}
-use Rattle.rules.proofs.Taken.{Taken, taken, decide, next-lock, next-granted, next-phase}
+use Rattle.rules.proofs.Taken.{Taken, taken, decide, next-lock, next-phase}
 use Rattle.rules.proofs.Kept.{BeatsOk, built-burst}
 use Rattle.rules.proofs.Decision.{decides-low}
 use Rattle.promises.specs.Machines.{arbiter}

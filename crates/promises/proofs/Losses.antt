@@ -3,13 +3,13 @@
 --   absent-loses   == an absent master loses nothing
 --   losses-below   == the decisions that a master lost in a row and the turns that it has left are together below n
 --   no-g11, no-g12 == the rule is not broken
-use Prim.Native.Nat.{ℕ, zero, suc, _+_, _%_, _^_, _≤_, _<_}
-use mathlib.Core.Path.{_≡_, refl, sym, _∙_, ap, subst}
-use mathlib.Core.Bool.{Bool, true, false, not, _&&_, _||_, cond, true≢false, and-false}
-use mathlib.Core.List.{List, [], _∷_}
+use Prim.Native.Nat.{ℕ, zero, suc, _+_, _%_, _≤_, _<_}
+use mathlib.Core.Path.{_≡_, refl}
+use mathlib.Core.Bool.{Bool, true, false, not, _&&_, cond, true≢false, and-false}
+use mathlib.Core.List.{List, _∷_}
 use native.Mathlib.Omega.{arith}
 use native.Mathlib.Nat.{mod-eq-of-lt}
-use borrow.Author.Tests.{eqb-true, eqb-false, ne-eqb, not-true, le-ltb}
+use borrow.Author.Tests.{eqb-true, eqb-false, ne-eqb}
 use lib.Dec.{eqb, ltb}
 use Rattle.rules.specs.declared.Burst.{Burst}
 use Rattle.rules.specs.declared.Phase.the-variants.{Fresh}
@@ -19,14 +19,14 @@ use Rattle.rules.specs.Codes.{ready, idle, nonseq, burstOf}
 use Rattle.rules.specs.Masks.{high}
 use Rattle.rules.specs.State.{resetState}
 use Rattle.rules.specs.Phase.{seen, protected, phaseOpened, phaseAfter, settled, opensLater, decides}
-use Rattle.rules.specs.Step.{flagOf, shown}
-use Rattle.rules.proofs.Choice.{either, order, and-left, and-right}
+use Rattle.rules.specs.Step.{shown}
+use Rattle.rules.proofs.Choice.{order}
 use Rattle.rules.proofs.Masks.{high-below}
 use Rattle.rules.proofs.Winner.{turns-below}
 use Rattle.rules.proofs.WellFormed.{Began}
-use Rattle.rules.proofs.Taken.{Taken, decide}
+use Rattle.rules.proofs.Taken.{decide}
 use Rattle.rules.proofs.Total.{good-masks}
-use Rattle.rulebook.specs.Columns.{decided, someMaster}
+use Rattle.rulebook.specs.Columns.{decided}
 use Rattle.rulebook.specs.Traces.{comparing, completes}
 use Rattle.rulebook.specs.Rules.{loses, lostInARow, limit, g11, g12}
 use Rattle.rules.specs.declared.Cycle.{Cycle}

@@ -3,12 +3,12 @@
 --
 --   some-single    == "some master with f and HGRANT", of a single grant bit, is f of the granted master
 --   no-g1, no-g4 .. no-g10 == the rule is not broken
-use Prim.Native.Nat.{ℕ, zero, suc, _+_, _≤_, _<_}
+use Prim.Native.Nat.{ℕ, zero, suc, _<_}
 use mathlib.Core.Path.{_≡_, refl, sym, _∙_, ap, subst}
-use mathlib.Core.Bool.{Bool, true, false, not, _&&_, _||_, Bool·beq, cond, true≢false, false≢true, and-false, or-false}
+use mathlib.Core.Bool.{Bool, true, false, not, _&&_, _||_, Bool·beq, cond, and-false, or-false}
 use native.Mathlib.Omega.{arith}
 use borrow.Author.Tests.{eqb-true, eqb-false, eq-eqb, ne-eqb}
-use lib.Dec.{eqb, ltb}
+use lib.Dec.{eqb}
 use Rattle.rules.specs.declared.State.{State}
 use Rattle.rules.specs.declared.Inputs.{Inputs}
 use Rattle.rules.specs.declared.Outputs.{Outputs}
@@ -16,12 +16,11 @@ use Rattle.rules.specs.Codes.{ready}
 use Rattle.rules.specs.Masks.{high, single, someHigh}
 use Rattle.rules.specs.Phase.{seen, handover}
 use Rattle.rules.specs.Step.{flagOf, ownerAfter, lockAfter}
-use Rattle.rules.proofs.Choice.{either, order, differ, and-left, and-right}
-use Rattle.rules.proofs.Masks.{high-single, high-some}
+use Rattle.rules.proofs.Choice.{either, order, differ}
 use Rattle.rules.proofs.Winner.{winner-ended}
 use Rattle.rules.proofs.Taken.{Taken, decide, next-g, next-m, next-lock}
 use Rattle.rules.proofs.Decision.{decides-low, chosen-zero}
-use Rattle.rulebook.specs.Columns.{decided, granted, locked, requested, request, lock, grant, ownersRequest, someBelow, someMaster, handover as handoverAt}
+use Rattle.rulebook.specs.Columns.{granted, request, lock, grant, someBelow, someMaster}
 use Rattle.rulebook.specs.Rules.{differ as differs, g1, g4, g5, g6, g7, g8, g9, g10}
 use Rattle.promises.proofs.Served.{falls-when-ready, grant-kept, grant-won, granted-raised, granted-falls}
 use Rattle.promises.proofs.History.{cycleOf, shown-decided, shown-granted, shown-locked, shown-busreq, shown-request, shown-hgrant, shown-hmaster, shown-hmastlock, shown-grant, shown-handover}

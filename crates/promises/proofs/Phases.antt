@@ -4,13 +4,13 @@
 --   stands-next    == one cycle keeps that
 --   no-g2, no-g3   == no watched burst is cut
 --   no-cut         == no fixed burst is cut, locked or not
-use Prim.Native.Nat.{ℕ, zero, suc, _+_, _-_, _≤_, _<_}
-use mathlib.Core.Path.{_≡_, refl, sym, _∙_, ap, subst, subst₂}
-use mathlib.Core.Bool.{Bool, true, false, not, _&&_, cond, true≢false, false≢true, and-false}
+use Prim.Native.Nat.{ℕ, _+_, _-_, _≤_}
+use mathlib.Core.Path.{_≡_, refl, sym, _∙_, subst}
+use mathlib.Core.Bool.{Bool, true, false, not, _&&_, cond, false≢true, and-false}
 use mathlib.Core.List.{List, [], _∷_}
 use native.Mathlib.Omega.{arith}
-use borrow.Author.Tests.{leb-true, leb-false, le-ltb, not-true}
-use lib.Dec.{eqb, leb, ltb}
+use borrow.Author.Tests.{leb-true, leb-false, le-ltb}
+use lib.Dec.{leb, ltb}
 use Rattle.rules.specs.declared.Burst.{Burst}
 use Rattle.rules.specs.declared.Burst.the-variants as burst
 use Rattle.rules.specs.declared.Phase.{Phase}
@@ -21,12 +21,11 @@ use Rattle.rules.specs.declared.Outputs.{Outputs}
 use Rattle.rules.specs.declared.Cycle.{Cycle}
 use Rattle.rules.specs.declared.Seen.{Seen}
 use Rattle.rules.specs.Codes.{ready, nonseq, burstOf}
-use Rattle.rules.specs.Masks.{high}
 use Rattle.rules.specs.State.{phaseOk}
-use Rattle.rules.specs.Phase.{seen, handover, phaseOpened, phaseLow, phaseAfter}
-use Rattle.rules.proofs.Choice.{either, and-left, and-right, or-left}
-use Rattle.rules.proofs.Taken.{Taken, decide, next-phase}
-use Rattle.rulebook.specs.Columns.{isReady, isIncr, isFixed, beats, beatsOf, unspecified, granted, locked, ownersRequest, handover as handoverAt}
+use Rattle.rules.specs.Phase.{seen, phaseOpened, phaseLow, phaseAfter}
+use Rattle.rules.proofs.Choice.{either, and-left, and-right}
+use Rattle.rules.proofs.Taken.{Taken, next-phase}
+use Rattle.rulebook.specs.Columns.{isReady, isIncr, isFixed, beats, granted, locked, ownersRequest, handover as handoverAt}
 use Rattle.rulebook.specs.Traces.{access, opens, Opened, notYet, openedAt, further, opening, all, readies}
 use Rattle.rulebook.specs.Rules.{watched, cutsIncr, cutsFixed, g2, g3}
 use Rattle.promises.specs.Promises.{cutsBurst, cut}

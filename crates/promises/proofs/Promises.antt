@@ -1,19 +1,14 @@
 -- The promises hold of the step of document 01.
-use Prim.Native.Nat.{ℕ, _+_, _-_, _*_, _≤_, _<_}
+use Prim.Native.Nat.{ℕ}
 use mathlib.Core.Path.{_≡_, refl, sym, _∙_, ap}
-use mathlib.Core.Bool.{Bool, true, false, not}
-use mathlib.Core.List.{List}
+use mathlib.Core.Bool.{Bool, true, false}
 use native.Mathlib.Omega.{arith}
 use lib.Dec.{leb}
-use Rattle.rules.specs.declared.Refusal.{Refusal}
 use Rattle.rules.specs.declared.Check.{Check}
 use Rattle.rules.specs.declared.Check.the-variants.{Good, Bad}
 use Rattle.rules.specs.declared.Found.{Found}
 use Rattle.rules.specs.declared.Found.the-variants.{At, Nothing}
-use Rattle.rules.specs.declared.State.{State}
-use Rattle.rules.specs.declared.Inputs.{Inputs}
-use Rattle.rules.specs.declared.Answer.{Answer}
-use Rattle.rules.specs.declared.Answer.the-variants.{Next, Refused}
+use Rattle.rules.specs.declared.Answer.the-variants.{Refused}
 use Rattle.rules.specs.Codes.{mostCycles}
 use Rattle.rules.specs.Valid.{inputsCheck}
 use Rattle.rules.specs.State.{wellFormed}
@@ -27,7 +22,7 @@ use Rattle.promises.specs.Machines.{theStep}
 use Rattle.promises.specs.Promises.{HandsBack, NeverRefuses, FollowsThePage, StaysWellFormed, LosesFew, NobodyWinsTwice, ServesWithin, ServesSoon, Promised}
 use Rattle.promises.proofs.Bound.{bound}
 use Rattle.promises.proofs.Served.{turnsOf, served}
-use Rattle.promises.proofs.Fair.{Sound, reached-sound, few-losses, one-win-each}
+use Rattle.promises.proofs.Fair.{reached-sound, few-losses, one-win-each}
 use Rattle.promises.proofs.Lockfree.{longest, room-most, short-accesses}
 use Rattle.promises.proofs.Exact.{serves-exactly}
 use Rattle.promises.proofs.Cleared.{cleared}

@@ -5,8 +5,7 @@
 --   served         == all the laws together
 use Prim.Native.Nat.{ℕ, _<_}
 use mathlib.Core.Path.{_≡_, refl, sym, _∙_, ap}
-use mathlib.Core.Bool.{Bool, true, false, _&&_, _||_, cond, true≢false, false≢true}
-use native.Mathlib.Omega.{arith}
+use mathlib.Core.Bool.{Bool, true, false, _&&_, cond, true≢false, false≢true}
 use Rattle.rules.specs.declared.Found.the-variants.{At}
 use Rattle.rules.specs.declared.State.{State}
 use Rattle.rules.specs.declared.Inputs.{Inputs}
@@ -16,7 +15,7 @@ use Rattle.rules.specs.Winner.{winner}
 use Rattle.rules.specs.Phase.{seen}
 use Rattle.rules.specs.Step.{grantedAfter}
 use Rattle.rules.proofs.Masks.{high-some}
-use Rattle.rules.proofs.Winner.{turns, turns-below, turns-other, winner-won}
+use Rattle.rules.proofs.Winner.{turns, winner-won}
 use Rattle.rules.proofs.Taken.{Taken, taken, decide, next-n, next-g, next-granted}
 use Rattle.rules.proofs.Decision.{decides-low, chosen-kept, chosen-won}
 use Rattle.promises.specs.Machines.{arbiter, InTurn}

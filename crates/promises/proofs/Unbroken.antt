@@ -1,20 +1,18 @@
 -- No guarantee is broken, and no protected burst is cut, at any cycle of a run from reset.
 use Prim.Native.Nat.{ℕ, zero, suc, _<_}
-use mathlib.Core.Path.{_≡_, refl, sym, _∙_, subst}
-use mathlib.Core.Bool.{Bool, true, false, _&&_, false≢true}
-use mathlib.Core.List.{List, [], _∷_}
+use mathlib.Core.Path.{_≡_, refl, sym, subst}
+use mathlib.Core.Bool.{true, false, _&&_, false≢true}
+use mathlib.Core.List.{List, _∷_}
 use native.Mathlib.Omega.{arith}
 use lib.ListN.{length}
 use Rattle.rules.specs.declared.State.{State}
 use Rattle.rules.specs.declared.Inputs.{Inputs}
 use Rattle.rules.specs.declared.Outputs.{Outputs}
 use Rattle.rules.specs.declared.Cycle.{Cycle}
-use Rattle.rules.specs.declared.Start.the-variants.{Ready}
-use Rattle.rules.specs.declared.Phase.{Phase}
-use Rattle.rules.specs.State.{resetOf, phaseOk}
+use Rattle.rules.specs.State.{phaseOk}
 use Rattle.rules.specs.Step.{stepOf}
-use Rattle.rules.proofs.WellFormed.{Began, reset-is}
-use Rattle.rules.proofs.Taken.{Taken, taken, decide}
+use Rattle.rules.proofs.WellFormed.{reset-is}
+use Rattle.rules.proofs.Taken.{taken}
 use Rattle.rulebook.specs.declared.Rule.{Rule}
 use Rattle.rulebook.specs.declared.Rule.the-variants.{A1, A2, A3, A4, A5, A6, A7, A8, A9, G1, G2, G3, G4, G5, G6, G7, G8, G9, G10, G11, G12}
 use Rattle.rulebook.specs.Columns.{handover}

@@ -1,19 +1,15 @@
 -- Each of the four wrong arbiters breaks a promise: no run of theirs is needed but one of eleven ready cycles with two masters, in which
 -- master 1 requests from the start and nobody locks.
-use Prim.Native.Nat.{ℕ, _+_, _*_, _/_, _%_, _^_, _-_}
+use Prim.Native.Nat.{ℕ}
 use mathlib.Core.Path.{_≡_, refl, sym, _∙_}
 use mathlib.Core.Bool.{Bool, true, false, false≢true}
 use mathlib.Core.List.{List, [], _∷_}
 use native.Mathlib.Omega.{arith}
 use lib.ListN.{length}
-use Rattle.rules.specs.declared.Check.the-variants.{Good}
-use Rattle.rules.specs.declared.Phase.the-variants.{Fresh, Done}
+use Rattle.rules.specs.declared.Phase.the-variants.{Fresh}
 use Rattle.rules.specs.declared.State.{State}
 use Rattle.rules.specs.declared.Inputs.{Inputs}
-use Rattle.rules.specs.declared.Outputs.{Outputs}
 use Rattle.rules.specs.declared.Answer.{Answer}
-use Rattle.rules.specs.declared.Answer.the-variants.{Next, Refused}
-use Rattle.rules.specs.declared.Start.the-variants.{Ready}
 use Rattle.rules.specs.Codes.{burstOf}
 use Rattle.rules.specs.Masks.{high}
 use Rattle.rules.specs.Valid.{inputsTooLarge, inputsNotBuilt, inputsAbsent, inputsCheck}

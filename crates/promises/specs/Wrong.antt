@@ -4,8 +4,7 @@
 --   favouring      == grants master 0 for ever
 --   untouching     == returns its state untouched
 --   repeating      == arbitrates the first cycle and then repeats its grants
-use Prim.Native.Nat.{ℕ}
-use mathlib.Core.Bool.{Bool, true, false, _&&_}
+use mathlib.Core.Bool.{_&&_}
 use lib.Dec.{eqb}
 use Rattle.rules.specs.declared.Refusal.the-variants as refusal
 use Rattle.rules.specs.declared.State.{State}

@@ -10,7 +10,7 @@
 --   handover c         == GRANTED and HREADY both high
 --   someMaster f       == some master has f
 use Prim.Native.Nat.{ℕ, zero, suc}
-use mathlib.Core.Bool.{Bool, true, false, not, _&&_, _||_}
+use mathlib.Core.Bool.{Bool, true, false, _&&_, _||_}
 use lib.Dec.{eqb, ltb}
 use Rattle.rules.specs.declared.Burst.{Burst}
 use Rattle.rules.specs.declared.Burst.the-variants as burst

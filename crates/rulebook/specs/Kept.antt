@@ -3,9 +3,9 @@
 --   watchIn o          == the watch in an access at its opening
 --   keptOf n h         == the judge after the history h
 --   Sound j            == a well-formed judge, as facts
-use Prim.Native.Nat.{ℕ, _-_, _%_, _^_, _≤_, _<_}
+use Prim.Native.Nat.{ℕ, _-_, _%_, _≤_, _<_}
 use mathlib.Core.Path.{_≡_}
-use mathlib.Core.Bool.{Bool, true, false, _&&_, cond}
+use mathlib.Core.Bool.{Bool, true, false, cond}
 use mathlib.Core.List.{List, [], _∷_}
 use lib.ListN.{length, getD}
 use Rattle.rules.specs.declared.Check.the-variants.{Good}
@@ -15,7 +15,7 @@ use Rattle.rules.specs.declared.Cycle.{Cycle}
 use Rattle.rules.specs.Codes.{mostMasters, mostCycles, burstOf}
 use Rattle.rules.specs.Valid.{cycleCheck}
 use Rattle.rulebook.specs.declared.Watch.{Watch}
-use Rattle.rulebook.specs.declared.Watch.the-variants.{Nothing, OnG2, OnG3}
+use Rattle.rulebook.specs.declared.Watch.the-variants.{Nothing, OnG2}
 use Rattle.rulebook.specs.declared.Judge.{Judge}
 use Rattle.rulebook.specs.Columns.{ownersRequest}
 use Rattle.rulebook.specs.Traces.{inARow, access, Opened, notYet, openedAt, opening, all, readies}

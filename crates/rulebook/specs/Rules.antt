@@ -5,8 +5,8 @@
 --   rules              == the rules in the order of the report
 --   those f l          == of a list of rules, those that have f, in their order
 --   brokenRules n trace t == the rules that are broken at cycle t, in the order of the report
-use Prim.Native.Nat.{ℕ, zero, suc, _+_, _-_}
-use mathlib.Core.Bool.{Bool, true, false, not, _&&_, _||_, Bool·beq, cond}
+use Prim.Native.Nat.{ℕ, _+_, _-_}
+use mathlib.Core.Bool.{Bool, false, not, _&&_, _||_, Bool·beq, cond}
 use mathlib.Core.List.{List, [], _∷_}
 use lib.Dec.{eqb, ltb}
 use Rattle.rules.specs.declared.Cycle.{Cycle}

@@ -13,7 +13,6 @@ use lib.ListN.{getD, replicate}
 use Rattle.rules.specs.declared.Refusal.the-variants as refusal
 use Rattle.rules.specs.declared.Check.{Check}
 use Rattle.rules.specs.declared.Check.the-variants.{Good, Bad}
-use Rattle.rules.specs.declared.Inputs.{Inputs}
 use Rattle.rules.specs.declared.Outputs.{Outputs}
 use Rattle.rules.specs.declared.Cycle.{Cycle}
 use Rattle.rules.specs.Codes.{mostMasters, mostCycles, longestBurst}

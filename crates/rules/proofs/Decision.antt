@@ -5,12 +5,11 @@
 --   chosen-zero   == a decision with no request grants master 0
 --   chosen-below  == the grant that follows is a master
 --   chosen-won    == a decision with a request grants the winner
-use Prim.Native.Nat.{ℕ, _≤_, _<_}
-use mathlib.Core.Path.{_≡_, refl, sym, _∙_}
-use mathlib.Core.Bool.{Bool, true, false, not, _&&_, cond}
+use Prim.Native.Nat.{ℕ, _<_}
+use mathlib.Core.Path.{_≡_, refl}
+use mathlib.Core.Bool.{Bool, true, false, not, _&&_}
 use native.Mathlib.Omega.{arith}
 use borrow.Author.Tests.{not-true}
-use lib.Dec.{eqb}
 use Rattle.rules.specs.declared.Found.the-variants.{At}
 use Rattle.rules.specs.declared.State.{State}
 use Rattle.rules.specs.declared.Inputs.{Inputs}
@@ -20,7 +19,7 @@ use Rattle.rules.specs.Winner.{winner}
 use Rattle.rules.specs.Phase.{settled, phaseAfter, decides}
 use Rattle.rules.specs.Step.{chosen}
 use Rattle.rules.proofs.Choice.{and-left, and-right}
-use Rattle.rules.proofs.Winner.{Ended, winner-ended}
+use Rattle.rules.proofs.Winner.{winner-ended}
 
 pub decides-low : (s : State) (v : Seen) → decides s v ≡ true → s .granted ≡ false
 unfolding decides

@@ -2,11 +2,11 @@
 --
 --   built-burst     == the beats of a fixed burst that is built: 2 to the longest
 --   kept            == the state after a step is well formed
-use Prim.Native.Nat.{ℕ, suc, _+_, _-_, _≤_, _<_}
+use Prim.Native.Nat.{ℕ, _-_, _≤_, _<_}
 use mathlib.Core.Path.{_≡_, refl, sym, _∙_}
 use mathlib.Core.Bool.{Bool, true, false, not, _&&_, _||_, cond, true≢false, false≢true}
 use native.Mathlib.Omega.{arith}
-use borrow.Author.Tests.{leb-true, leb-false, le-leb, eqb-true, not-true}
+use borrow.Author.Tests.{leb-true, leb-false, le-leb, eqb-true}
 use lib.Dec.{eqb, leb}
 use Rattle.rules.specs.declared.Burst.{Burst}
 use Rattle.rules.specs.declared.Burst.the-variants as burst
@@ -18,12 +18,11 @@ use Rattle.rules.specs.declared.Outputs.{Outputs}
 use Rattle.rules.specs.declared.Seen.{Seen}
 use Rattle.rules.specs.Codes.{burstOf, longestBurst, ready}
 use Rattle.rules.specs.Masks.{someHigh, high}
-use Rattle.rules.specs.State.{phaseOk, wellFormed, WellFormed}
-use Rattle.rules.specs.Phase.{seen, handover, phaseOpened, phaseLow, phaseAfter, settled, decides}
+use Rattle.rules.specs.State.{phaseOk, WellFormed}
+use Rattle.rules.specs.Phase.{seen, handover, phaseOpened, phaseLow, phaseAfter, settled}
 use Rattle.rules.specs.Step.{grantedAfter, ownerAfter, lockAfter, moved}
-use Rattle.rules.proofs.Choice.{cond-elim, and-left, and-right, and-both}
-use Rattle.rules.proofs.WellFormed.{test-of}
-use Rattle.rules.proofs.Taken.{Taken, decide, next-n, next-g, next-m, next-lock, next-granted, next-phase, next-count}
+use Rattle.rules.proofs.Choice.{cond-elim, and-left, and-right}
+use Rattle.rules.proofs.Taken.{Taken, decide}
 use Rattle.rules.proofs.Decision.{decides-low, decides-settled, chosen-kept, chosen-zero, chosen-below}
 
 -- a fixed burst has two beats or more, and no more than the longest

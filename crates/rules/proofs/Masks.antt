@@ -8,9 +8,9 @@
 --   high-some       == where a bit is high, some is
 use Prim.Native.Nat.{ℕ, zero, suc, _+_, _*_, _/_, _%_, _^_, _≤_, _<_}
 use mathlib.Core.Path.{_≡_, refl, sym, _∙_, ap}
-use mathlib.Core.Bool.{Bool, true, false, not, false≢true}
+use mathlib.Core.Bool.{true, false, false≢true}
 use native.Mathlib.Omega.{arith}
-use native.Mathlib.Nat.{pow-suc, zero-div, zero-mod, div-eq-of-lt, lt-of-lt-of-le, div-lt-iff-lt-mul}
+use native.Mathlib.Nat.{pow-suc, zero-div, div-eq-of-lt, lt-of-lt-of-le}
 use borrow.Author.Tests.{eq-eqb, ne-eqb}
 use lib.Dec.{eqb, eqb·suc-suc, eqb·suc-zero, eqb·zero-suc}
 use lib.Pow.{pow-mono, pow-pos, shr-shr, split}

@@ -5,12 +5,12 @@
 --   gap-next      == a step round brings every other master one nearer
 --   gap-through   == what lies on the way splits the distance
 --   gap-to-last   == the last met on the walk from the one after g is g itself
-use Prim.Native.Nat.{ℕ, zero, suc, _+_, _-_, _≤_, _<_}
-use mathlib.Core.Path.{_≡_, refl}
-use mathlib.Core.Bool.{Bool, cond}
+use Prim.Native.Nat.{ℕ, _+_, _-_, _≤_, _<_}
+use mathlib.Core.Path.{_≡_}
+use mathlib.Core.Bool.{cond}
 use native.Mathlib.Omega.{arith}
 use borrow.Author.Tests.{le-leb, lt-leb, lt-ltb, le-ltb}
-use lib.Dec.{leb, ltb}
+use lib.Dec.{leb}
 use Rattle.rules.specs.Winner.{next}
 use Rattle.rules.proofs.Choice.{order}
 

@@ -2,7 +2,7 @@
 --
 --   outputs-fit    == no column of the outputs is too large
 --   valid-shown    == 4, 5, 6 and 7 do not apply to the cycle
-use Prim.Native.Nat.{ℕ, _^_, _≤_, _<_}
+use Prim.Native.Nat.{_^_, _≤_, _<_}
 use mathlib.Core.Path.{_≡_, refl}
 use mathlib.Core.Bool.{Bool, true, false}
 use native.Mathlib.Omega.{arith}

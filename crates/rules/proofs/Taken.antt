@@ -3,28 +3,26 @@
 --   Taken s x s' o   == the facts of a step from s by x to s' that shows o
 --   taken            == a step that answers Next has them
 --   next-n, next-g, next-m, next-lock, next-granted, next-phase, next-count == the fields of s'
-use Prim.Native.Nat.{ℕ, _+_, _≤_, _<_}
-use mathlib.Core.Path.{_≡_, refl, sym, _∙_, ap}
-use mathlib.Core.Bool.{Bool, true, false, not, cond}
+use Prim.Native.Nat.{ℕ, _+_, _<_}
+use mathlib.Core.Path.{_≡_, refl, ap}
+use mathlib.Core.Bool.{Bool, true, false}
 use native.Mathlib.Omega.{arith}
-use borrow.Author.Tests.{leb-false, not-false, not-true}
+use borrow.Author.Tests.{leb-false}
 use lib.Dec.{leb}
 use Rattle.rules.specs.declared.Refusal.{Refusal}
 use Rattle.rules.specs.declared.Check.{Check}
 use Rattle.rules.specs.declared.Check.the-variants.{Good, Bad}
 use Rattle.rules.specs.declared.Found.{Found}
 use Rattle.rules.specs.declared.Found.the-variants.{At, Nothing}
-use Rattle.rules.specs.declared.Phase.{Phase}
 use Rattle.rules.specs.declared.State.{State}
 use Rattle.rules.specs.declared.Inputs.{Inputs}
 use Rattle.rules.specs.declared.Outputs.{Outputs}
-use Rattle.rules.specs.declared.Answer.{Answer}
 use Rattle.rules.specs.declared.Answer.the-variants.{Next, Refused}
 use Rattle.rules.specs.Codes.{mostCycles}
 use Rattle.rules.specs.Valid.{inputsCheck}
 use Rattle.rules.specs.State.{wellFormed, WellFormed}
 use Rattle.rules.specs.Phase.{seen, phaseAfter, decides}
-use Rattle.rules.specs.Step.{chosen, grantedAfter, ownerAfter, lockAfter, moved, shown, answered, accepted, checked, stepOf}
+use Rattle.rules.specs.Step.{chosen, grantedAfter, ownerAfter, lockAfter, moved, shown, accepted, stepOf}
 use Rattle.rules.proofs.WellFormed.{facts-of}
 
 -- DECIDE in state s with inputs x

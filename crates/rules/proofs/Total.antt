@@ -3,27 +3,26 @@
 --   good-masks     == a valid stimulus names no absent master
 --   chosen-found   == a decision always finds a master, with a request high or not
 --   never-refused  == the step is taken
-use Prim.Native.Nat.{ℕ, _^_, _≤_, _<_}
-use mathlib.Core.Path.{_≡_, refl, sym, _∙_}
-use mathlib.Core.Bool.{Bool, true, false, not, _||_, cond}
+use Prim.Native.Nat.{ℕ, _^_, _<_}
+use mathlib.Core.Path.{_≡_, refl}
+use mathlib.Core.Bool.{Bool, true, false}
 use native.Mathlib.Omega.{arith}
-use borrow.Author.Tests.{leb-false, lt-leb, eqb-false, not-true}
-use lib.Dec.{eqb, leb}
-use Rattle.rules.specs.declared.Check.the-variants.{Good, Bad}
+use borrow.Author.Tests.{leb-false, lt-leb, eqb-false}
+use lib.Dec.{eqb}
+use Rattle.rules.specs.declared.Check.the-variants.{Good}
 use Rattle.rules.specs.declared.Found.the-variants.{At}
 use Rattle.rules.specs.declared.State.{State}
 use Rattle.rules.specs.declared.Inputs.{Inputs}
-use Rattle.rules.specs.declared.Outputs.{Outputs}
 use Rattle.rules.specs.declared.Answer.the-variants.{Next}
 use Rattle.rules.specs.Refusals.{firstOf}
 use Rattle.rules.specs.Codes.{mostCycles}
-use Rattle.rules.specs.Masks.{someHigh, namesAbsent}
+use Rattle.rules.specs.Masks.{namesAbsent}
 use Rattle.rules.specs.Valid.{inputsTooLarge, inputsNotBuilt, inputsAbsent, inputsCheck}
-use Rattle.rules.specs.State.{wellFormed, WellFormed}
+use Rattle.rules.specs.State.{WellFormed}
 use Rattle.rules.specs.Phase.{seen}
 use Rattle.rules.specs.Step.{chosen, moved, shown, accepted, stepOf}
 use Rattle.rules.proofs.Choice.{or-left, or-right}
-use Rattle.rules.proofs.Masks.{Named, some-is-high}
+use Rattle.rules.proofs.Masks.{some-is-high}
 use Rattle.rules.proofs.Winner.{winner-won}
 use Rattle.rules.proofs.WellFormed.{test-of}
 use Rattle.rules.proofs.Taken.{decide}

@@ -4,17 +4,16 @@
 --   test-of       == what has the facts passes the test
 --   reset-is      == a reset that is not refused gives the reset state, for n from 2 to 16
 --   reset-sound   == the reset state is well formed
-use Prim.Native.Nat.{ℕ, _≤_, _<_}
-use mathlib.Core.Path.{_≡_, refl, sym, _∙_}
-use mathlib.Core.Bool.{Bool, true, false, not, _&&_, _||_, false≢true}
+use Prim.Native.Nat.{ℕ, _≤_}
+use mathlib.Core.Path.{_≡_, refl, sym}
+use mathlib.Core.Bool.{Bool, true, false, _||_, false≢true}
 use native.Mathlib.Omega.{arith}
 use borrow.Author.Tests.{ltb-true, leb-true, eqb-true, lt-ltb, le-leb, eq-eqb}
 use lib.Dec.{eqb, ltb, leb}
-use Rattle.rules.specs.declared.Phase.the-variants.{Fresh}
 use Rattle.rules.specs.declared.State.{State}
-use Rattle.rules.specs.declared.Start.the-variants.{Ready, Refused}
+use Rattle.rules.specs.declared.Start.the-variants.{Ready}
 use Rattle.rules.specs.State.{mastersOk, resetState, resetOf, phaseOk, wellFormed, WellFormed}
-use Rattle.rules.proofs.Choice.{either, and-left, and-right, and-both}
+use Rattle.rules.proofs.Choice.{and-left, and-right}
 
 -- the parts of the test, as it stands
 record Parts (s : State) : Type 0 where

@@ -6,10 +6,9 @@
 --   winner-won    == where i requests there is a winner, and a winner other than i brings i's turn nearer
 --   turns n g i   == how many decisions i can still lose with the grant at g
 use Prim.Native.Nat.{ℕ, zero, suc, _+_, _-_, _≤_, _<_}
-use mathlib.Core.Path.{_≡_, refl, sym, _∙_, subst}
+use mathlib.Core.Path.{_≡_, refl, _∙_, subst}
 use mathlib.Core.Bool.{Bool, true, false}
 use native.Mathlib.Omega.{arith}
-use Rattle.rules.specs.declared.Found.{Found}
 use Rattle.rules.specs.declared.Found.the-variants.{At, Nothing}
 use Rattle.rules.specs.Masks.{high}
 use Rattle.rules.specs.Winner.{next, walk, winner}

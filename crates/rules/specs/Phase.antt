@@ -7,7 +7,7 @@
 --   phaseLow p lock v   == the phase after a cycle with GRANTED low
 --   phaseAfter s x      == the phase after a cycle
 --   decides s x         == DECIDE is high
-use Prim.Native.Nat.{ℕ, _-_}
+use Prim.Native.Nat.{_-_}
 use mathlib.Core.Bool.{Bool, true, false, not, _&&_, cond}
 use lib.Dec.{leb}
 use Rattle.rules.specs.declared.Burst.{Burst}

@@ -6,7 +6,7 @@
 --   startOf a       == the number that a reset answers: 0, or that of its refusal
 --   firstOf v u a o == of the tests 4, 5, 6 and 7, in this order, the first that applies
 use Prim.Native.Nat.{ℕ}
-use mathlib.Core.Bool.{Bool, true, false, cond}
+use mathlib.Core.Bool.{Bool, cond}
 use Rattle.rules.specs.declared.Refusal.{Refusal}
 use Rattle.rules.specs.declared.Refusal.the-variants as refusal
 use Rattle.rules.specs.declared.Check.{Check}

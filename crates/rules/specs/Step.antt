@@ -6,7 +6,7 @@
 --   shown s v d        == what the arbiter drives in a cycle in which DECIDE is d
 --   stepOf s x         == the answer of a step
 use Prim.Native.Nat.{ℕ, _+_}
-use mathlib.Core.Bool.{Bool, true, false, not, _&&_, _||_, cond}
+use mathlib.Core.Bool.{Bool, true, false, not, _||_, cond}
 use lib.Dec.{eqb, leb}
 use Rattle.rules.specs.declared.Refusal.the-variants as refusal
 use Rattle.rules.specs.declared.Check.{Check}

@@ -4,7 +4,7 @@
 --   inputsCheck n x == the first of 4, 5, 6 that applies to a stimulus
 --   cycleCheck n c  == the first of 4, 5, 6, 7 that applies to a recorded cycle
 use Prim.Native.Nat.{ℕ}
-use mathlib.Core.Bool.{Bool, true, false, _||_}
+use mathlib.Core.Bool.{Bool, false, _||_}
 use lib.Dec.{eqb, ltb, leb}
 use Rattle.rules.specs.declared.Inputs.{Inputs}
 use Rattle.rules.specs.declared.Outputs.{Outputs}

@@ -4,7 +4,7 @@
 --   walk n m k i    == the first of k masters, from i on, whose bit is 1 in the mask m
 --   winner n g m    == the first of all n masters from the one after g on
 use Prim.Native.Nat.{ℕ, zero, suc, _+_}
-use mathlib.Core.Bool.{Bool, cond}
+use mathlib.Core.Bool.{cond}
 use lib.Dec.{ltb}
 use Rattle.rules.specs.declared.Found.{Found}
 use Rattle.rules.specs.declared.Found.the-variants.{At, Nothing}

@@ -4,14 +4,14 @@
 --   cut            == a whole block, and then the rest
 --   tail           == a last block, which may be cut, and then the end
 --   in-blocks      == any number of whole blocks and a last one
-use Prim.Native.Nat.{ℕ, zero, suc, _+_, _-_, _*_, _≤_, _<_}
-use mathlib.Core.Path.{_≡_, refl, sym, _∙_, ap, subst}
+use Prim.Native.Nat.{ℕ, zero, suc, _+_, _*_, _≤_, _<_}
+use mathlib.Core.Path.{_≡_, refl, _∙_, ap}
 use mathlib.Core.List.{List, [], _∷_, _++_, append-assoc}
 use native.Mathlib.Omega.{arith}
 use lib.ListN.{length, drop, length-append, length-drop}
 use lib.Seq.{drop-append-le}
 use Rattle.streams.specs.Streams.{Turn, goes, stops, onward, written, Stretch, on, done, before, step, unlessEmpty, stretch, then}
-use Rattle.streams.specs.Blocks.{Whole, ByLines, joined, inBlocks, AllWhole}
+use Rattle.streams.specs.Blocks.{ByLines, joined, inBlocks, AllWhole}
 
 module _ {S : Type 0} (turn : S → List ℕ → Turn S) (w : ℕ) (L : ByLines w turn) where
   pub enough : (k k' : ℕ) (s : S) (rest : List ℕ) → length rest < k → length rest < k' → written turn k s rest ≡ written turn k' s rest

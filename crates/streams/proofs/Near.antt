@@ -2,15 +2,14 @@
 --
 --   number-near, parted-near, place-near == what stands in a list is seen the same with more behind it
 --   arbiter-by-lines, judge-by-lines     == the turns of the two programs
-use Prim.Native.Nat.{ℕ, zero, suc, _+_, _-_, _^_, _≤_, _<_}
+use Prim.Native.Nat.{ℕ, zero, suc, _+_, _-_, _≤_}
 use mathlib.Core.Path.{_≡_, refl, sym, _∙_, ap}
-use mathlib.Core.Bool.{Bool, true, false, cond, _&&_}
+use mathlib.Core.Bool.{Bool, true, false, cond}
 use mathlib.Core.List.{List, [], _∷_, _++_}
 use native.Mathlib.Omega.{arith}
-use borrow.Author.Tests.{le-ltb, lt-ltb, ltb-true, ltb-false, eqb-true, eqb-false, ne-eqb}
+use borrow.Author.Tests.{le-ltb, ltb-true, ltb-false, ne-eqb}
 use lib.Dec.{eqb, ltb}
-use lib.ListN.{length, getD, List·getD-append, length-append}
-use Rattle.rules.specs.declared.Refusal.{Refusal}
+use lib.ListN.{length, List·getD-append, length-append}
 use Rattle.rules.specs.declared.Refusal.the-variants as refusal
 use Rattle.rules.specs.declared.Check.{Check}
 use Rattle.rules.specs.declared.Check.the-variants.{Good, Bad}
@@ -22,7 +21,7 @@ use Rattle.rules.specs.declared.Answer.the-variants.{Next, Refused}
 use Rattle.rules.specs.Valid.{inputsCheck}
 use Rattle.rules.specs.State.{mastersOk}
 use Rattle.rules.specs.Step.{stepOf}
-use Rattle.formats.specs.Digits.{joined, hexDigit, numberAt}
+use Rattle.formats.specs.Digits.{numberAt}
 use Rattle.formats.specs.Fields.{Field, width, parted}
 use Rattle.formats.specs.Lines.{stimulusFields, traceFields, inputsAt, outputsAt, cycleAt, lineCheck, Place, beyond, atEnd, cut, whole, place, stimulusChecked, stimulusIn, readStimulusOf, traceChecked, traceIn, readTraceOf}
 use Rattle.formats.specs.declared.StimulusRead.{StimulusRead}
@@ -34,7 +33,7 @@ use Rattle.rulebook.specs.declared.Verdict.the-variants.{Taken, Refused as Unju
 use Rattle.rulebook.specs.declared.Judgement.{Judgement}
 use Rattle.rulebook.specs.Step.{judgeOf}
 use Rattle.streams.specs.declared.Bench.{Bench}
-use Rattle.streams.specs.Streams.{Turn, goes, stops}
+use Rattle.streams.specs.Streams.{goes, stops}
 use Rattle.streams.specs.Arbiter.{stepped, stimulated, arbiterTurn}
 use Rattle.streams.specs.Judging.{judgedTo, traced, judgeTurn}
 use Rattle.streams.specs.Blocks.{ByLines}

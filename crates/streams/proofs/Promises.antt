@@ -1,13 +1,12 @@
 -- What the programs write is the same wherever their input is cut into blocks.
-use Prim.Native.Nat.{ℕ, suc, _-_, _≤_, _<_}
-use mathlib.Core.Path.{_≡_, refl, sym, _∙_, ap}
+use Prim.Native.Nat.{ℕ, suc, _<_}
+use mathlib.Core.Path.{_≡_, ap}
 use mathlib.Core.List.{List, _++_}
 use native.Mathlib.Omega.{arith}
 use lib.ListN.{length, drop, length-drop}
 use Rattle.rules.specs.State.{resetState}
 use Rattle.formats.specs.declared.Word.the-variants.{Trace}
 use Rattle.formats.specs.Headers.{header}
-use Rattle.streams.specs.Streams.{written}
 use Rattle.streams.specs.Arbiter.{arbiterTurn, arbiterProgram}
 use Rattle.streams.specs.Judging.{judgeTurn, startBench, judgeProgram}
 use Rattle.streams.specs.Blocks.{joined}

@@ -3,7 +3,7 @@
 --   arbiterTurn s rest == one stimulus line: it is read, the arbiter takes it, and the trace line is written
 --   arbiterProgram s   == all that the program writes for the input s
 use Prim.Native.Nat.{ℕ, suc, _+_}
-use mathlib.Core.List.{List, [], _∷_, _++_}
+use mathlib.Core.List.{List, [], _++_}
 use lib.ListN.{length, drop}
 use Rattle.rules.specs.declared.State.{State}
 use Rattle.rules.specs.declared.Inputs.{Inputs}

@@ -1,5 +1,5 @@
 -- `names_absent` meets its contract: no u32 reaches 2 ^ 32, so from 32 masters on it names none that is absent.
-use Prim.Native.Nat.{ℕ, _^_, _≤_, _<_}
+use Prim.Native.Nat.{ℕ, _^_, _<_}
 use mathlib.Core.Path.{_≡_, refl}
 use mathlib.Core.Bool.{Bool, true, false, _&&_, cond}
 use native.Mathlib.Nat.{lt-of-lt-of-le}

@@ -1,6 +1,6 @@
 -- `winner` meets its contract. Invariant: what is left of the walk has the winner of the whole. Measure: the masters left.
 use borrow.Author.Needs.{needs}
-use Prim.Native.Nat.{ℕ, _<_}
+use Prim.Native.Nat.{_<_}
 use mathlib.Core.Path.{_≡_, _∙_, sym}
 use native.Mathlib.Omega.{arith}
 use Rattle.rules.specs.Winner.{walk as walkFrom, winner as winnerOf}
