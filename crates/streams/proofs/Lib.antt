@@ -1,3 +1,4 @@
 pub mod Cut
 pub mod Near
 pub mod Promises
+pub mod Examples

@@ -4,3 +4,4 @@ pub mod Arbiter
 pub mod Judging
 pub mod Blocks
 pub mod Promises
+pub mod Examples
