@@ -1,5 +1,7 @@
 /* The arbiter program: a stimulus in, a trace out. */
 #include "arbitrate.h"
+#include "put.h"
+#include "take.h"
 #include "text.h"
 
 static struct input in;

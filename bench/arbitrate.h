@@ -4,8 +4,6 @@
 
 #include "lines.h"
 
-enum { LIMIT = 1000000 };
-
 /* 1 to 3 stand for Fixed k: a beat less is one less, and Done follows */
 enum { DONE = 0, OPEN = 4, FRESH = 5 };
 

@@ -21,7 +21,12 @@ struct inputs {
 static struct inputs draw(u32 n) {
     static const u32 htrans[4] = {0, 2, 2, 3}, hburst[4] = {0, 1, 3, 3};
     u32 all = (1u << n) - 1, hbusreq = below(1u << 16) & all;
-    return (struct inputs){hbusreq, below(8) ? 0 : hbusreq & below(1u << 16), below(5) != 0, htrans[below(4)], hburst[below(4)]};
+    u32 hlock = below(8) ? 0 : hbusreq & below(1u << 16), hready = below(5) != 0;
+    return (struct inputs){hbusreq, hlock, hready, htrans[below(4)], hburst[below(4)]};
+}
+
+INLINE u32 call(step_call *step, const struct inputs *in, u8 *state, u64 state_len, u8 *line, u64 line_len) {
+    return step(in->hbusreq, in->hlock, in->hready, in->htrans, in->hburst, state, state_len, line, line_len);
 }
 
 static int time_calls(reset_call *reset, step_call *step, u32 n, u32 calls) {
@@ -30,9 +35,8 @@ static int time_calls(reset_call *reset, step_call *step, u32 n, u32 calls) {
     u32 refusals = 0;
     for (u32 i = 0; i < INPUTS; i++) table[i] = draw(n);
     for (u32 i = 0; i < calls; i++) {
-        const struct inputs *in = &table[i % INPUTS];
         if (i % RUN == 0) refusals |= reset(n, state, sizeof state);
-        refusals |= step(in->hbusreq, in->hlock, in->hready, in->htrans, in->hburst, state, sizeof state, line, sizeof line);
+        refusals |= call(step, &table[i % INPUTS], state, sizeof state, line, sizeof line);
     }
     return refusals != 0;
 }
@@ -71,9 +75,8 @@ static int compare_calls(u32 n, u32 calls) {
         bad = below(16) == 0;
         if (bad) spoil(&in, plain[0], &state_len, &line_len);
         __builtin_memcpy(product, plain, sizeof plain);
-        u32 one = plain_step(in.hbusreq, in.hlock, in.hready, in.htrans, in.hburst, plain[0], state_len, plain[1], line_len);
-        u32 two = espigambre_step(in.hbusreq, in.hlock, in.hready, in.htrans, in.hburst, product[0], state_len, product[1],
-                                  line_len);
+        u32 one = call(plain_step, &in, plain[0], state_len, plain[1], line_len);
+        u32 two = call(espigambre_step, &in, product[0], state_len, product[1], line_len);
         if (one != two || __builtin_memcmp(plain, product, sizeof plain)) return 1;
     }
     return 0;
@@ -88,7 +91,7 @@ static u32 number(const char *text) {
 int main(int words, char **word) {
     if (words != 4) return 2;
     u32 n = number(word[2]), calls = number(word[3]);
-    switch (word[1][1]) {
+    switch (word[1][1]) { /* pLain, pRoduct, sAme */
     case 'l': return time_calls(plain_reset, plain_step, n, calls);
     case 'r': return time_calls(espigambre_reset, espigambre_step, n, calls);
     case 'a': return compare_calls(n, calls);

@@ -1,8 +1,7 @@
 /* The judging program: a trace in, a report out. */
 #include "rules.h"
+#include "take.h"
 #include "text.h"
-
-enum { LIMIT = 1000000 };
 
 static struct input in;
 static struct output out;

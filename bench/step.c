@@ -1,7 +1,8 @@
 /* The host's reset and step in plain C. State bytes: n, g, m, HMASTLOCK, GRANTED, phase (0 Fresh, 1
    Fixed, 2 Open, 3 Done), k, 0, and the count, low byte first. */
-#include "step.h"
 #include "arbitrate.h"
+#include "put.h"
+#include "step.h"
 
 /* Whether eight bytes and a count are those of a well-formed state. */
 INLINE u32 well_formed(const u8 *s, u32 count) {

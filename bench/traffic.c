@@ -4,6 +4,7 @@
    4,000. Most ask most of the time; bursts are INCR4, SINGLE and INCR; one piece of work in sixteen is
    locked; HREADY is high in four cycles of five. */
 #include "arbitrate.h"
+#include "put.h"
 #include "text.h"
 
 enum { LONGEST_WAIT = 8, LONGEST_INCR = 12 };

@@ -1,0 +1,25 @@
+-- `on_g3` meets its contract.
+use borrow.Author.Needs.{needs}
+use Rattle.charging.proofs.flags.on_g3.Statement.{statement}
+use Rattle.charging.proofs.flags.on_g3.Tie as tie
+
+enum-told : tie.Need-enum-told
+enum-told c = search needs
+
+enum-told-2 : tie.Need-enum-told-2
+enum-told-2 c = search needs
+
+enum-known-w : tie.Need-enum-known-w
+enum-known-w c = search needs
+
+returns : tie.Need-returns
+returns c = search needs
+
+returns-2 : tie.Need-returns-2
+returns-2 c = search needs
+
+returns-3 : tie.Need-returns-3
+returns-3 c = rw (c .before .w .given .1)
+
+pub on-g3-spec : {M : Type 1} → statement M
+on-g3-spec = tie.close (tie.spec enum-told enum-told-2 enum-known-w returns returns-2 returns-3)

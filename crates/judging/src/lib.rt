@@ -1,0 +1,151 @@
+// The judge of document 01, one cycle at a time: its state goes in by value and comes back.
+mod form;
+
+use rulebook::Judge;
+use rulebook::Judgement;
+use rulebook::Opening;
+use rulebook::Verdict;
+use rulebook::Watch;
+use rules::Check;
+use rules::Cycle;
+use rules::Inputs;
+use rules::Outputs;
+use rules::Refusal;
+ghost use mathlib.Core.Path.{_≡_};
+ghost use mathlib.Core.Bool.{true};
+ghost use Prim.Native.Nat.{_<_};
+ghost use Rattle.rules.specs.Codes.{mostCycles};
+ghost use Rattle.rules.specs.Valid.{cycleCheck};
+ghost use Rattle.rulebook.specs.State.{noCycle, startJudge, startOf, wellFormed};
+ghost use Rattle.rulebook.specs.Step.{refusedOf, takenOf, checkedOf, judgeOf};
+ghost use Rattle.charging.specs.Ready.{Ready};
+
+fn no_cycle() -> Cycle
+    ensures { λ r. ⌜ r ≡ noCycle ⌝ }
+{
+    Cycle {
+        inputs: Inputs {
+            hbusreq: 0,
+            hlock: 0,
+            hready: 0,
+            htrans: 0,
+            hburst: 0,
+        },
+        outputs: Outputs {
+            hgrant: 0,
+            hmaster: 0,
+            hmastlock: 0,
+            decide: 0,
+            granted: 0,
+            busreq: 0,
+        },
+    }
+}
+
+fn start_judge(n: u32) -> Judge
+    ensures { λ r. ⌜ r ≡ startJudge n ⌝ }
+{
+    let previous = no_cycle();
+    let lost = [0; 16];
+    Judge {
+        n,
+        count: 0,
+        previous,
+        locked: 0,
+        waited: 0,
+        opened: false,
+        watch: Watch::Nothing,
+        lost,
+    }
+}
+
+// The judge of n masters, or refusal 1 beside a judge of none.
+pub fn start(n: u32) -> Opening
+    ensures { λ r. ⌜ r ≡ startOf n ⌝ }
+{
+    if (2 <= n) & (n <= 16) {
+        Opening {
+            judge: start_judge(n),
+            verdict: Verdict::Taken,
+        }
+    } else {
+        Opening {
+            judge: start_judge(0),
+            verdict: Verdict::Refused(Refusal::Masters),
+        }
+    }
+}
+
+// Whether a judge is well formed.
+pub fn well_formed(j: Judge) -> bool
+    ensures { λ r. ⌜ r ≡ wellFormed j ⌝ }
+{
+    let p = j.previous;
+    let w = j.watch;
+    let lost = j.lost;
+    let check = signals::check_cycle(j.n, p);
+    let good = form::is_good(check);
+    let wrong = form::some_wrong(j.n, lost);
+    let watch = form::watch_ok(j.opened, w);
+    let start = form::start_ok(j);
+    (2 <= j.n)
+        & (j.n <= 16)
+        & (j.count <= 1000000)
+        & good
+        & (j.locked < 1024)
+        & (j.waited < 17)
+        & !wrong
+        & watch
+        & start
+}
+
+fn refused(j: Judge, r: Refusal) -> Judgement
+    ensures { λ a. ⌜ a ≡ refusedOf j r ⌝ }
+{
+    let charged = [false; 21];
+    Judgement {
+        judge: j,
+        verdict: Verdict::Refused(r),
+        charged,
+    }
+}
+
+// A cycle that is taken: what it charges, and the judge after it.
+fn take(j: Judge, c: Cycle) -> Judgement
+    requires { ⌜ Ready j c ⌝ }
+    ensures { λ a. ⌜ a ≡ takenOf j c ⌝ }
+{
+    let kept = keeping::keep(j, c);
+    let judge = kept.judge;
+    let all = charging::charge_all(j, c, kept.reached);
+    let charged = all.of;
+    Judgement {
+        judge,
+        verdict: Verdict::Taken,
+        charged,
+    }
+}
+
+// A cycle of a well-formed judge below the count limit: 4, 5, 6, 7.
+fn checked(j: Judge, c: Cycle) -> Judgement
+    requires { ⌜ (wellFormed j ≡ true) × (j .count < mostCycles) ⌝ }
+    ensures { λ a. ⌜ a ≡ checkedOf (cycleCheck (j .n) c) j c ⌝ }
+{
+    match signals::check_cycle(j.n, c) {
+        Check::Good => take(j, c),
+        Check::Bad(r) => refused(j, r),
+    }
+}
+
+// One cycle: what it charges and the judge after it, or the first refusal of 10, 8, 4, 5, 6, 7 with the judge as it came.
+pub fn step(j: Judge, c: Cycle) -> Judgement
+    ensures { λ a. ⌜ a ≡ judgeOf j c ⌝ }
+{
+    if !well_formed(j) {
+        return refused(j, Refusal::State);
+    }
+    if 1000000 <= j.count {
+        return refused(j, Refusal::Full);
+    }
+    checked(j, c)
+}
