@@ -1,0 +1,6 @@
+pub mod Masters
+pub mod Digits
+pub mod Separators
+pub mod Stores
+pub mod Decimals
+pub mod Writers

@@ -1,0 +1,4 @@
+pub mod Places
+pub mod Close
+pub mod Small
+pub mod Unique
