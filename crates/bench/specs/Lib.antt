@@ -1,0 +1,2 @@
+-- What the bench's caller says and holds.
+pub mod Bench

@@ -1,0 +1,173 @@
+-- The twelve bytes and the well-formed states correspond one to one.
+--
+--   slots-take      == the first elements of a list, one by one
+--   bytes-of-number == the number that w bytes write has those bytes
+--   left-small      == k of a well-formed state is a byte
+--   state-bytes     == a well-formed state has twelve bytes
+--   state-again     == they write that state, whatever follows them
+--   bytes-again     == bytes that write a state are its bytes
+use Prim.Native.Nat.{ℕ, zero, suc, _+_, _/_, _%_, _≤_, _<_}
+use mathlib.Core.Path.{_≡_, refl, sym, _∙_}
+use mathlib.Core.Bool.{Bool, true, false, _||_}
+use mathlib.Core.List.{List, [], _∷_, _++_}
+use native.Mathlib.Omega.{arith}
+use native.Mathlib.Numerals.{add-one}
+use borrow.Author.Tests.{leb-true, eqb-true}
+use lib.Dec.{eqb, leb}
+use lib.ListN.{length, getD, take, drop}
+use lib.Seq.{drop-cons}
+use Rattle.rules.specs.declared.Phase.{Phase}
+use Rattle.rules.specs.declared.Phase.the-variants.{Fresh, Fixed, Open, Done}
+use Rattle.rules.specs.declared.State.{State}
+use Rattle.rules.specs.State.{phaseOk, WellFormed}
+use Rattle.rules.specs.Step.{flagOf}
+use Rattle.rules.proofs.Choice.{and-left, and-right}
+use Rattle.hosting.specs.declared.Lent.the-variants.{Known}
+use Rattle.hosting.specs.Bytes.{stateSize, lowFirst, numberLow, phaseByte, leftByte, stateBytes, phaseOf, isState, stateIn, bytesState}
+
+-- a list of bytes: what a lent slice holds
+pub record Bytes (b : List ℕ) : Type 0 where
+  pub below : (i : ℕ) → getD b i 0 < 256
+
+-- w elements of a list from p on
+abbrev slots : List ℕ → ℕ → ℕ → List ℕ
+slots b p zero = []
+slots b p (suc w) = getD b p 0 ∷ slots b (p + 1) w
+
+slots-take : (b : List ℕ) (w p : ℕ) → p + w ≤ length b → take w (drop p b) ≡ slots b p w
+slots-take b zero p h = refl
+slots-take b (suc w) p h = rw (drop-cons b p 0 (omega arith), ← add-one, slots-take b w (p + 1) (omega arith))
+
+bytes-of-number : (w : ℕ) (b : List ℕ) (p : ℕ) → Bytes b → lowFirst w (numberLow w b p) ≡ slots b p w
+bytes-of-number zero b p h = refl
+bytes-of-number (suc w) b p h =
+    let low : numberLow (suc w) b p % 256 ≡ getD b p 0 = omega (arith, h .below p) in
+    let high : numberLow (suc w) b p / 256 ≡ numberLow w b (p + 1) = omega (arith, h .below p) in
+    rw (low, high, bytes-of-number w b (p + 1) h)
+
+none-bytes : Bytes []
+none-bytes = record { below = λ i. omega arith }
+
+one-more : {x : ℕ} {b : List ℕ} → x < 256 → Bytes b → Bytes (x ∷ b)
+one-more {x} {b} h w = record { below = at }
+  where
+    at : (i : ℕ) → getD (x ∷ b) i 0 < 256
+    at zero = h
+    at (suc i) = w .below i
+
+number-bytes : (w v : ℕ) → Bytes (lowFirst w v)
+number-bytes zero v = none-bytes
+number-bytes (suc w) v = one-more (omega arith) (number-bytes w (v / 256))
+
+flag-again : (f : Bool) → eqb (flagOf f) 1 ≡ f
+flag-again true = refl
+flag-again false = refl
+
+flag-byte : (f : ℕ) → leb f 1 ≡ true → flagOf (eqb f 1) ≡ f
+flag-byte zero e = refl
+flag-byte (suc zero) e = refl
+flag-byte (suc (suc f)) e = absurd (omega (arith, leb-true (suc (suc f)) 1 e))
+
+flag-small : (f : Bool) → leb (flagOf f) 1 ≡ true
+flag-small true = refl
+flag-small false = refl
+
+phase-again : (p : Phase) → phaseOf (phaseByte p) (leftByte p) ≡ p
+unfolding phaseOf
+phase-again Fresh = refl
+phase-again (Fixed k) = refl
+phase-again Open = refl
+phase-again Done = refl
+
+phase-shape : (p : Phase) → (leb (phaseByte p) 3 ≡ true) × ((eqb (phaseByte p) 1 || eqb (leftByte p) 0) ≡ true)
+phase-shape Fresh = (refl, refl)
+phase-shape (Fixed k) = (refl, refl)
+phase-shape Open = (refl, refl)
+phase-shape Done = (refl, refl)
+
+phase-bytes : (p k : ℕ) → leb p 3 ≡ true → (eqb p 1 || eqb k 0) ≡ true → (phaseByte (phaseOf p k) ≡ p) × (leftByte (phaseOf p k) ≡ k)
+unfolding phaseOf
+phase-bytes zero k e f = (refl, sym (eqb-true k 0 f))
+phase-bytes (suc zero) k e f = (refl, refl)
+phase-bytes (suc (suc zero)) k e f = (refl, sym (eqb-true k 0 f))
+phase-bytes (suc (suc (suc zero))) k e f = (refl, sym (eqb-true k 0 f))
+phase-bytes (suc (suc (suc (suc p)))) k e f = absurd (omega (arith, leb-true (suc (suc (suc (suc p)))) 3 e))
+
+phase-left-small : (p : Phase) (granted lock : Bool) → phaseOk p granted lock ≡ true → leftByte p < 256
+unfolding phaseOk
+phase-left-small Fresh granted lock e = omega arith
+phase-left-small (Fixed k) granted lock e =
+    let f : leb k 3 ≡ true = search (and-left, and-right) depth 9 in
+    omega (arith, leb-true k 3 f)
+phase-left-small Open granted lock e = omega arith
+phase-left-small Done granted lock e = omega arith
+
+pub left-small : (s : State) → WellFormed s → leftByte (s .phase) < 256
+left-small s w = phase-left-small (s .phase) (s .granted) (s .hmastlock) (w .phase)
+
+flag-below : (f : Bool) → flagOf f < 256
+flag-below true = omega arith
+flag-below false = omega arith
+
+phase-below : (p : Phase) → phaseByte p < 256
+phase-below Fresh = omega arith
+phase-below (Fixed k) = omega arith
+phase-below Open = omega arith
+phase-below Done = omega arith
+
+pub state-bytes : (s : State) → WellFormed s → (length (stateBytes s) ≡ stateSize) × Bytes (stateBytes s)
+unfolding stateBytes
+state-bytes s w =
+    let n : s .n < 256 = omega (arith, w .many) in
+    let g : s .g < 256 = omega (arith, w .grant) in
+    let m : s .m < 256 = omega (arith, w .owner) in
+    let spare : 0 < 256 = omega arith in
+    let lock = flag-below (s .hmastlock) in
+    let granted = flag-below (s .granted) in
+    let rest = one-more (phase-below (s .phase)) (one-more (left-small s w) (one-more spare (number-bytes 4 (s .count)))) in
+    (refl, one-more n (one-more g (one-more m (one-more lock (one-more granted rest)))))
+
+pub state-again : (s : State) (rest : List ℕ) → WellFormed s → bytesState (stateBytes s ++ rest) ≡ Known s
+unfolding bytesState stateBytes isState stateIn
+state-again s rest w =
+    let count : stateIn (stateBytes s ++ rest) .count ≡ s .count = omega (arith, w .room) in
+    let p = phase-shape (s .phase) in
+    simp (flag-small (s .hmastlock), flag-small (s .granted), p .0, p .1, flag-again (s .hmastlock), flag-again (s .granted), phase-again (s .phase), count)
+
+-- the parts of the test
+record Shape (b : List ℕ) : Type 0 where
+  lock : leb (getD b 3 0) 1 ≡ true
+  granted : leb (getD b 4 0) 1 ≡ true
+  phase : leb (getD b 5 0) 3 ≡ true
+  left : (eqb (getD b 5 0) 1 || eqb (getD b 6 0) 0) ≡ true
+  spare : eqb (getD b 7 0) 0 ≡ true
+
+shape-of : (b : List ℕ) → isState b ≡ true → Shape b
+unfolding isState
+shape-of b e = search (and-left, and-right) depth 9
+
+shaped-bytes : (b : List ℕ) → Bytes b → isState b ≡ true → stateBytes (stateIn b) ≡ slots b 0 12
+unfolding stateBytes stateIn
+shaped-bytes b w e =
+    let t = shape-of b e in
+    let p = phase-bytes (getD b 5 0) (getD b 6 0) (t .phase) (t .left) in
+    let count : lowFirst 4 (stateIn b .count) ≡ slots b 8 4 = bytes-of-number 4 b 8 w in
+    rw (
+      flag-byte (getD b 3 0) (t .lock),
+      flag-byte (getD b 4 0) (t .granted),
+      p .0,
+      p .1,
+      count,
+      eqb-true (getD b 7 0) 0 (t .spare),
+    )
+
+pub bytes-again : (b : List ℕ) (s : State) → stateSize ≤ length b → Bytes b → bytesState b ≡ Known s → stateBytes s ≡ take stateSize b
+unfolding bytesState
+bytes-again b s h w e = go (isState b) refl
+  where
+    go : (t : Bool) → isState b ≡ t → stateBytes s ≡ take stateSize b
+    go true q =
+        let f = rw q at e in
+        let i : s ≡ stateIn b = cc in
+        rw i (shaped-bytes b w q ∙ sym (slots-take b 12 0 h))
+    go false q = let f = rw q at e in let z : _≡_ {A = ℕ} 0 1 = cc in absurd (omega arith)

@@ -1,0 +1,2 @@
+/* size_t, for a compiler that comes without its headers. */
+typedef __SIZE_TYPE__ size_t;
