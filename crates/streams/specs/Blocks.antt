@@ -3,15 +3,19 @@
 --   Whole w a          == the block a is a whole number of lines of w bytes
 --   ByLines w turn     == a turn looks at no more than the first w bytes of its input, goes on only after them, and stops where nothing is left
 --   inBlocks turn s blocks last == what is written block by block; the last one ends the input, and may be cut
+--   benchFormed b      == what the judging program keeps is well formed
 --   arbiterBlockOf, arbiterBlockLeft, judgeBlockOf, judgeBlockLeft == the answers of the calls that take one block, and the buffer afterwards
 use Prim.Native.Nat.{ℕ, _+_, _*_, _/_, _≤_}
 use mathlib.Core.Path.{_≡_}
-use mathlib.Core.Bool.{cond}
+use mathlib.Core.Bool.{Bool, _&&_, cond}
 use mathlib.Core.List.{List, [], _∷_, _++_}
-use lib.Dec.{ltb}
+use lib.Dec.{ltb, leb}
 use lib.ListN.{length, drop}
 use Rattle.rules.specs.declared.State.{State}
-use Rattle.streams.specs.declared.Flow.the-variants.{GoesOn, Stopped, Short}
+use Rattle.rules.specs.State.{wellFormed}
+use Rattle.rulebook.specs.Rules.{rules}
+use Rattle.rulebook.specs.State.{wellFormed as judgeFormed}
+use Rattle.streams.specs.declared.Flow.the-variants.{GoesOn, Stopped, Short, Unformed}
 use Rattle.streams.specs.declared.ArbiterStretch.{ArbiterStretch}
 use Rattle.streams.specs.declared.Bench.{Bench}
 use Rattle.streams.specs.declared.JudgeStretch.{JudgeStretch}
@@ -45,18 +49,23 @@ abbrev pub AllWhole : ℕ → List (List ℕ) → Type 0
 AllWhole w [] = Unit {0}
 AllWhole w (a ∷ blocks) = Whole w a × AllWhole w blocks
 
--- The calls that take one block each. The lent buffer has room for what the longest lines can write: most bytes for each line of w bytes that
--- begins in the block, and for one line more.
+-- The calls that take one block each: 9, then 10. The lent buffer has room for what the longest lines can write: most bytes for each
+-- line of w bytes that begins in the block, and for one line more.
 unfoldable pub roomFor : ℕ → ℕ → List ℕ → ℕ
 roomFor w most block = (length block / w + 1) * most
+
+-- "State records added later get such a condition": each rule is charged at most once a cycle
+unfoldable pub benchFormed : Bench → Bool
+benchFormed b = judgeFormed (b .judge) && leb (b .breaches) (length rules * b .judge .count)
 
 abbrev pub bytesOf : {S : Type 0} → Stretch S → List ℕ
 bytesOf (on bytes s) = bytes
 bytesOf (done bytes s) = bytes
 
--- the buffer afterwards: what was written, and the rest untouched; all untouched where it is too short
-abbrev pub leftBy : {S : Type 0} → ℕ → Stretch S → List ℕ → List ℕ
-leftBy room t buffer = cond (ltb (length buffer) room) buffer (bytesOf t ++ drop (length (bytesOf t)) buffer)
+-- the buffer afterwards: what was written, and the rest untouched; all untouched where the call is refused
+abbrev pub leftBy : {S : Type 0} → ℕ → Bool → Stretch S → List ℕ → List ℕ
+leftBy room formed t buffer =
+    cond (ltb (length buffer) room) buffer (cond formed (bytesOf t ++ drop (length (bytesOf t)) buffer) buffer)
 
 -- a trace line has 31 bytes, and no refusal line is longer
 abbrev pub arbiterRoom : List ℕ → ℕ
@@ -71,10 +80,13 @@ arbiterStretch s block = stretch arbiterTurn (length block) s block
 
 unfoldable pub arbiterBlockOf : State → List ℕ → ℕ → ArbiterStretch
 arbiterBlockOf s block room =
-    cond (ltb room (arbiterRoom block)) (record { written = 0; flow = Short; state = s }) (asArbiter (arbiterStretch s block))
+    cond (ltb room (arbiterRoom block)) (record { written = 0; flow = Short; state = s })
+    (cond (wellFormed s)
+    (asArbiter (arbiterStretch s block))
+    (record { written = 0; flow = Unformed; state = s }))
 
 unfoldable pub arbiterBlockLeft : State → List ℕ → List ℕ → List ℕ
-arbiterBlockLeft s block buffer = leftBy (arbiterRoom block) (arbiterStretch s block) buffer
+arbiterBlockLeft s block buffer = leftBy (arbiterRoom block) (wellFormed s) (arbiterStretch s block) buffer
 
 -- 21 breach lines of at most ten digits, a tab, a name of three characters and LF; no other line is longer
 abbrev pub judgeRoom : List ℕ → ℕ
@@ -89,7 +101,8 @@ judgeStretch b block = stretch judgeTurn (length block) b block
 
 unfoldable pub judgeBlockOf : Bench → List ℕ → ℕ → JudgeStretch
 judgeBlockOf b block room =
-    cond (ltb room (judgeRoom block)) (record { written = 0; flow = Short; bench = b }) (asJudge (judgeStretch b block))
+    cond (ltb room (judgeRoom block)) (record { written = 0; flow = Short; bench = b })
+    (cond (benchFormed b) (asJudge (judgeStretch b block)) (record { written = 0; flow = Unformed; bench = b }))
 
 unfoldable pub judgeBlockLeft : Bench → List ℕ → List ℕ → List ℕ
-judgeBlockLeft b block buffer = leftBy (judgeRoom block) (judgeStretch b block) buffer
+judgeBlockLeft b block buffer = leftBy (judgeRoom block) (benchFormed b) (judgeStretch b block) buffer

@@ -2,11 +2,13 @@
 use rulebook::Judge;
 use rules::State;
 
-// How a block ended: all of it was used and more may come; the program stopped; or the lent buffer was too short (9).
+// How a block ended: all of it was used and more may come; or the program stopped. Nothing was done where the lent buffer
+// is too short (9), or where what was kept is not well formed (10).
 pub enum Flow {
     GoesOn,
     Stopped,
     Short,
+    Unformed,
 }
 
 // The arbiter after a block: how many bytes it wrote, how the block ended, and its state.

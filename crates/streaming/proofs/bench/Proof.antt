@@ -1,0 +1,13 @@
+-- `bench` meets its contract: the judge of a start, and no breach.
+use borrow.Author.Needs.{needs}
+use Rattle.streaming.proofs.bench.Statement.{statement}
+use Rattle.streaming.proofs.bench.Tie as tie
+
+start-requires : tie.Need-start-requires
+start-requires c κs = search needs
+
+returns : tie.Need-returns
+returns c = cc
+
+pub bench-spec : {M : Type 1} → statement M
+bench-spec = tie.close (tie.spec start-requires returns)

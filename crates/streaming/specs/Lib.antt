@@ -1,0 +1,4 @@
+-- What the calls of the two programs answer: for one line, for the breaches of a cycle, and for a header.
+pub mod Turns
+pub mod Breaches
+pub mod Heads
