@@ -1,4 +1,3 @@
-pub mod Masters
 pub mod Digits
 pub mod Separators
 pub mod Stores

@@ -1,4 +1,4 @@
-pub mod Places
+pub mod Spots
 pub mod Close
 pub mod Small
 pub mod Unique

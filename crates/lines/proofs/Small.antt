@@ -1,8 +1,8 @@
 -- Columns that passed the tests are below ten, but for the masks and HMASTER.
 --
 --   small-inputs, small-cycle == of a stimulus, and of a trace line
-use Prim.Native.Nat.{ℕ, _≤_, _<_}
-use mathlib.Core.Path.{_≡_, refl, sym, _∙_}
+use Prim.Native.Nat.{ℕ, _<_}
+use mathlib.Core.Path.{_≡_, refl}
 use mathlib.Core.Bool.{Bool, true, false, _||_, true≢false}
 use native.Mathlib.Omega.{arith}
 use borrow.Author.Tests.{ltb-false, lt-leb, ne-eqb}

@@ -56,14 +56,10 @@ add-v-3 : tie.Need-add-v-3
 add-v-3 c = search needs
 
 returns : tie.Need-returns
-returns c = let b3 = c .before .before .before in let b5 = b3 .before .before in let b7 = b5 .before .before in
-    let a = b7 .before .before .before .args in
-    mask-good (a .s .now) (a .p) _ _ _ _ (b7 .digit-or .ensures .0) (b5 .digit-or2 .ensures .0) (b3 .digit-or3 .ensures .0) (c .before .digit-or4 .ensures .0) (c .if1 .taken)
+returns c = search mask-good
 
 returns-2 : tie.Need-returns-2
-returns-2 c = let b3 = c .before .before .before in let b5 = b3 .before .before in let b7 = b5 .before .before in
-    let a = b7 .before .before .before .args in
-    mask-bad (a .s .now) (a .p) _ _ _ _ (b7 .digit-or .ensures .0) (b5 .digit-or2 .ensures .0) (b3 .digit-or3 .ensures .0) (c .before .digit-or4 .ensures .0) (c .if1 .left)
+returns-2 c = search mask-bad
 
 pub mask-at-spec : {M : Type 1} → statement M
 mask-at-spec =

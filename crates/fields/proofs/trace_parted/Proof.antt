@@ -1,5 +1,4 @@
 -- `trace_parted` meets its contract.
-use Prim.Native.Nat.{ℕ}
 use lib.Dec.{eqb}
 use lib.ListN.{getD}
 use Rattle.fields.proofs.Separators.{trace-row}

@@ -1,12 +1,8 @@
 -- `write_breach` meets its contract: both ends of a writer.
-use mathlib.Core.List.{[], _∷_, _++_}
+use mathlib.Core.Path.{_∙_}
 use native.Mathlib.Omega.{arith}
 use lib.ListN.{length-set}
-use Rattle.rules.specs.declared.Check.the-variants.{Good}
-use Rattle.formats.specs.Digits.{decimal}
-use Rattle.fields.proofs.Writers.{write-short, write-whole}
-use Rattle.headers.proofs.Texts.{breach-size, breach-stores, breach-line}
-use mathlib.Core.Path.{_≡_, refl, _∙_}
+use Rattle.headers.proofs.Texts.{breach-short, breach-written}
 use borrow.Author.Needs.{needs}
 use Rattle.headers.proofs.write_breach.Statement.{statement}
 use Rattle.headers.proofs.write_breach.Tie as tie
@@ -27,9 +23,8 @@ add-if1-2 : tie.Need-add-if1-2
 add-if1-2 c = omega arith
 
 returns : tie.Need-returns
-returns c = let m = c .before .before .before .name-of in let n = m .result in let a = c .before .before .before .before .before .args in
-    rw (breach-line (a .cycle) (n .letter) (n .index) (a .rule) (m .ensures .0) (m .ensures .1))
-    (write-short Good Good refl (decimal (a .cycle) ++ (9 ∷ (n .letter ∷ (decimal (n .index) ++ (10 ∷ []))))) (a .buf .now) _ refl (omega (arith, breach-size (decimal (a .cycle)) (decimal (n .index)) 9 (n .letter) 10)) (c .if1 .taken))
+returns c = let n = c .before .before .before .name-of in let a = c .before .before .before .before .before .args in
+    breach-short (a .cycle) (a .rule) (a .buf .now) _ _ _ _ (n .ensures .0) (n .ensures .1) (c .before .before .decimal-length .ensures .0) (c .before .decimal-length2 .ensures .0) (c .if1 .taken)
 
 put-decimal-requires : tie.Need-put-decimal-requires
 put-decimal-requires c κs = search needs
@@ -47,11 +42,9 @@ same-length : tie.Need-same-length
 same-length c = c .before .before .put-decimal2 .kept .0 ∙ simp length-set (c .before .before .before .before .before .before .put-decimal .kept .0)
 
 returns-2 : tie.Need-returns-2
-returns-2 c = let m = c .before .before .before .before .before .before .before .before .before .before .before .name-of in let n = m .result in let a = c .before .before .before .before .before .before .before .before .before .before .before .before .before .args in
-    let p = c .before .before .before .before .before .before .put-decimal .ensures in let q = c .before .before .put-decimal2 .ensures in
-    rw (breach-line (a .cycle) (n .letter) (n .index) (a .rule) (m .ensures .0) (m .ensures .1))
-    (write-whole Good Good refl (decimal (a .cycle) ++ (9 ∷ (n .letter ∷ (decimal (n .index) ++ (10 ∷ []))))) (a .buf .now) _ _ refl (omega (arith, breach-size (decimal (a .cycle)) (decimal (n .index)) 9 (n .letter) 10, p .0, q .0)) (omega (arith, p .0, q .0))
-    (breach-stores (a .buf .now) _ _ (decimal (a .cycle)) (decimal (n .index)) 9 (n .letter) 10 _ (p .1) (p .0) (q .1)))
+returns-2 c = let p = c .before .before .before .before .before .before .put-decimal .ensures in let q = c .before .before .put-decimal2 .ensures in
+    let n = c .before .before .before .before .before .before .before .before .before .before .before .name-of in let a = c .before .before .before .before .before .before .before .before .before .before .before .before .before .args in
+    breach-written (a .cycle) (a .rule) (a .buf .now) _ _ _ _ (n .ensures .0) (n .ensures .1) (c .before .before .before .before .before .before .before .before .before .before .decimal-length .ensures .0) (c .before .before .before .before .before .before .before .before .before .decimal-length2 .ensures .0) _ _ _ _ (c .before .before .before .before .before .before .before .before .if1 .left) (p .0) (p .1) (q .0) (q .1)
 
 pub write-breach-spec : {M : Type 1} → statement M
 write-breach-spec =

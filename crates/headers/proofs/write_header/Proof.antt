@@ -1,5 +1,5 @@
 -- `write_header` meets its contract: n is tested first, and each word has its own bytes.
-use mathlib.Core.Path.{_≡_, sym, _∙_}
+use mathlib.Core.Path.{sym, _∙_}
 use Rattle.rules.specs.declared.Check.the-variants.{Good}
 use Rattle.formats.specs.Lines.{forMasters}
 use Rattle.formats.specs.Headers.{header, writeHeaderOf, headerWritten}

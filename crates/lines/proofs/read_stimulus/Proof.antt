@@ -1,16 +1,10 @@
 -- `read_stimulus` meets its contract: the answer at each spot, and by the test of a whole line.
-use mathlib.Core.Path.{refl, sym, _∙_}
 use Rattle.formats.specs.Lines.{stimulusFields}
-use Rattle.lines.proofs.Places.{inside-within, whole-fits}
-use Rattle.lines.proofs.Close.{stimulus-at}
+use Rattle.lines.proofs.Spots.{inside-within, whole-fits}
+use Rattle.lines.proofs.Close.{stimulus-at, stimulus-whole, stimulus-cut}
 use borrow.Author.Needs.{needs}
 use Rattle.lines.proofs.read_stimulus.Statement.{statement}
 use Rattle.lines.proofs.read_stimulus.Tie as tie
-use Rattle.lines.proofs.read_stimulus.Reads as reads
-use Rattle.lines.proofs.read_stimulus.Lts as lts
-use Rattle.lines.proofs.spot_at.Reads as spot-at-reads
-use Rattle.lines.proofs.stimulus_whole.Reads as stimulus-whole-reads
-use Rattle.lines.proofs.take_stimulus.Reads as take-stimulus-reads
 
 spot-at-requires : tie.Need-spot-at-requires
 spot-at-requires c κs = search needs
@@ -28,31 +22,25 @@ enum-told-4 : tie.Need-enum-told-4
 enum-told-4 c = search needs
 
 stimulus-whole-requires : tie.Need-stimulus-whole-requires
-stimulus-whole-requires c κs = let a = c .before .before .before .before .args in inside-within (a .n) (a .s .now) (a .at) (sym (c .before .before .spot-at .ensures) ∙ c .enum-told4 .given .1)
+stimulus-whole-requires c κs = search inside-within
 
 take-stimulus-requires : tie.Need-take-stimulus-requires
-take-stimulus-requires c κs = let a = c .before .before .before .before .before .before .args in
-    whole-fits stimulusFields (a .s .now) (a .at) (inside-within (a .n) (a .s .now) (a .at) (sym (c .before .before .before .before .spot-at .ensures) ∙ c .before .before .enum-told4 .given .1)) (sym (c .before .stimulus-whole .ensures) ∙ c .if1 .taken)
+take-stimulus-requires c κs = search (whole-fits stimulusFields)
 
 returns : tie.Need-returns
-returns c = let a = c .before .before .before .before .args in
-    stimulus-at (a .n) (a .s .now) (a .at) _ _ (c .before .before .spot-at .ensures) (c .enum-told .given .1) _ refl
+returns c = search stimulus-at
 
 returns-2 : tie.Need-returns-2
-returns-2 c = let a = c .before .before .before .before .args in
-    stimulus-at (a .n) (a .s .now) (a .at) _ _ (c .before .before .spot-at .ensures) (c .enum-told2 .given .1) _ refl
+returns-2 c = search stimulus-at
 
 returns-3 : tie.Need-returns-3
-returns-3 c = let a = c .before .before .before .before .args in
-    stimulus-at (a .n) (a .s .now) (a .at) _ _ (c .before .before .spot-at .ensures) (c .enum-told3 .given .1) _ refl
+returns-3 c = search stimulus-at
 
 returns-4 : tie.Need-returns-4
-returns-4 c = let a = c .before .before .before .before .before .before .before .args in
-    stimulus-at (a .n) (a .s .now) (a .at) _ _ (c .before .before .before .before .before .spot-at .ensures) (c .before .before .before .enum-told4 .given .1) _ (rw (← c .before .before .stimulus-whole .ensures, c .before .if1 .taken) (c .take-stimulus .ensures))
+returns-4 c = search stimulus-whole
 
 returns-5 : tie.Need-returns-5
-returns-5 c = let a = c .before .before .before .before .before .before .args in
-    stimulus-at (a .n) (a .s .now) (a .at) _ _ (c .before .before .before .before .spot-at .ensures) (c .before .before .enum-told4 .given .1) _ (rw (← c .before .stimulus-whole .ensures, c .if1 .left))
+returns-5 c = search stimulus-cut
 
 pub read-stimulus-spec : {M : Type 1} → statement M
 read-stimulus-spec =

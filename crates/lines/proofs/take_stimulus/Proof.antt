@@ -5,7 +5,7 @@ use Rattle.rules.specs.declared.Inputs.{Inputs}
 use Rattle.rules.specs.Valid.{inputsCheck}
 use Rattle.formats.specs.declared.StimulusRead.the-variants.{Line}
 use Rattle.formats.specs.Lines.{stimulusChecked}
-use Rattle.lines.proofs.Places.{by-check}
+use Rattle.lines.proofs.Spots.{by-check}
 use borrow.Author.Needs.{needs}
 use Rattle.lines.proofs.take_stimulus.Statement.{statement}
 use Rattle.lines.proofs.take_stimulus.Tie as tie

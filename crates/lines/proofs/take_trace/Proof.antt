@@ -4,7 +4,7 @@ use mathlib.Core.Path.{refl, ap}
 use Rattle.rules.specs.declared.Cycle.{Cycle}
 use Rattle.formats.specs.declared.TraceRead.the-variants.{Line}
 use Rattle.formats.specs.Lines.{lineCheck, traceChecked}
-use Rattle.lines.proofs.Places.{by-check}
+use Rattle.lines.proofs.Spots.{by-check}
 use borrow.Author.Needs.{needs}
 use Rattle.lines.proofs.take_trace.Statement.{statement}
 use Rattle.lines.proofs.take_trace.Tie as tie

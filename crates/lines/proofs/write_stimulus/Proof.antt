@@ -1,8 +1,5 @@
 -- `write_stimulus` meets its contract: the three ends of a writer.
-use mathlib.Core.Path.{_≡_, refl, sym, ap, _∙_}
-use Rattle.formats.specs.Lines.{forMasters, stimulusLine, writeStimulusOf, stimulusWritten}
-use Rattle.fields.proofs.Writers.{write-refused, write-short, write-whole}
-use Rattle.lines.proofs.Small.{small-inputs}
+use Rattle.lines.proofs.Close.{stimulus-refused, stimulus-short, stimulus-small, stimulus-written}
 use borrow.Author.Needs.{needs}
 use Rattle.lines.proofs.write_stimulus.Statement.{statement}
 use Rattle.lines.proofs.write_stimulus.Tie as tie
@@ -21,29 +18,22 @@ enum-told c = search needs
 
 put-inputs-requires : tie.Need-put-inputs-requires
 put-inputs-requires c κs = let m = c .before .before .before .before in let a = m .before .before .before .args in
-    let check = m .for-masters .ensures ∙ ap (forMasters (a .n)) (m .before .check-inputs .ensures) in
-    (search needs, small-inputs (a .n) (a .x) (sym check ∙ c .before .before .enum-told .given .1))
+    (search needs, stimulus-small (a .n) (a .buf .now) _ _ (m .for-masters .ensures) (a .x) (m .before .check-inputs .ensures) (c .before .before .enum-told .given .1))
 
 returns : tie.Need-returns
-unfolding writeStimulusOf stimulusWritten
 returns c = let m = c .before .before .before in let a = m .before .before .before .args in
-    let check = m .for-masters .ensures ∙ ap (forMasters (a .n)) (m .before .check-inputs .ensures) in
-    write-refused _ _ check (stimulusLine (a .x)) (a .buf .now) _ (c .before .r .given .1)
+    stimulus-refused (a .n) (a .buf .now) _ _ (m .for-masters .ensures) (a .x) (m .before .check-inputs .ensures) _ (c .before .r .given .1)
 
 returns-2 : tie.Need-returns-2
-unfolding writeStimulusOf stimulusWritten
 returns-2 c = let m = c .before .before .before in let a = m .before .before .before .args in
-    let check = m .for-masters .ensures ∙ ap (forMasters (a .n)) (m .before .check-inputs .ensures) in
-    write-short _ _ check (stimulusLine (a .x)) (a .buf .now) 16 (c .before .enum-told .given .1) refl (c .if1 .taken)
+    stimulus-short (a .n) (a .buf .now) _ _ (m .for-masters .ensures) (a .x) (m .before .check-inputs .ensures) (c .before .enum-told .given .1) (c .if1 .taken)
 
 same-length : tie.Need-same-length
 same-length c = search needs
 
 returns-3 : tie.Need-returns-3
-unfolding writeStimulusOf stimulusWritten
 returns-3 c = let m = c .before .before .before .before .before .before .before in let a = m .before .before .before .args in
-    let check = m .for-masters .ensures ∙ ap (forMasters (a .n)) (m .before .check-inputs .ensures) in
-    write-whole _ _ check (stimulusLine (a .x)) (a .buf .now) 16 _ (c .before .before .before .before .before .enum-told .given .1) refl (c .before .before .before .before .if1 .left) (c .before .before .put-inputs .ensures)
+    stimulus-written (a .n) (a .buf .now) _ _ (m .for-masters .ensures) (a .x) (m .before .check-inputs .ensures) (c .before .before .before .before .before .enum-told .given .1) _ (c .before .before .before .before .if1 .left) (c .before .before .put-inputs .ensures)
 
 pub write-stimulus-spec : {M : Type 1} → statement M
 write-stimulus-spec =

@@ -1,11 +1,5 @@
 -- `write_trace` meets its contract: the three ends of a writer.
-use mathlib.Core.Path.{_≡_, refl, sym, ap, _∙_}
-use Rattle.formats.specs.Lines.{forMasters, stimulusLine, traceLine, writeTraceOf, traceWritten}
-use Rattle.fields.proofs.Writers.{write-refused, write-short, write-whole}
-use mathlib.Core.List.{[], _∷_, _++_}
-use lib.ListN.{take, drop}
-use Rattle.fields.proofs.Stores.{then-sets}
-use Rattle.lines.proofs.Small.{small-cycle}
+use Rattle.lines.proofs.Close.{trace-refused, trace-short, trace-small, trace-written}
 use borrow.Author.Needs.{needs}
 use Rattle.lines.proofs.write_trace.Statement.{statement}
 use Rattle.lines.proofs.write_trace.Tie as tie
@@ -24,35 +18,27 @@ enum-told c = search needs
 
 put-inputs-requires : tie.Need-put-inputs-requires
 put-inputs-requires c κs = let m = c .before .before .before .before .before in let a = m .before .before .before .args in
-    let check = m .for-masters .ensures ∙ ap (forMasters (a .n)) (m .before .check-cycle .ensures) in
-    (search needs, small-cycle (a .n) (a .c) (sym check ∙ c .before .before .before .enum-told .given .1) .0)
+    (search needs, trace-small (a .n) (a .buf .now) _ _ (m .for-masters .ensures) (a .c) (m .before .check-cycle .ensures) (c .before .before .before .enum-told .given .1) .0)
 
 put-outputs-requires : tie.Need-put-outputs-requires
 put-outputs-requires c κs = let m = c .before .before .before .before .before .before .before .before .before in let a = m .before .before .before .args in
-    let check = m .for-masters .ensures ∙ ap (forMasters (a .n)) (m .before .check-cycle .ensures) in
-    (search needs, small-cycle (a .n) (a .c) (sym check ∙ c .before .before .before .before .before .before .before .enum-told .given .1) .1)
+    (search needs, trace-small (a .n) (a .buf .now) _ _ (m .for-masters .ensures) (a .c) (m .before .check-cycle .ensures) (c .before .before .before .before .before .before .before .enum-told .given .1) .1)
 
 returns : tie.Need-returns
-unfolding writeTraceOf traceWritten
 returns c = let m = c .before .before .before in let a = m .before .before .before .args in
-    let check = m .for-masters .ensures ∙ ap (forMasters (a .n)) (m .before .check-cycle .ensures) in
-    write-refused _ _ check (traceLine (a .c)) (a .buf .now) _ (c .before .r .given .1)
+    trace-refused (a .n) (a .buf .now) _ _ (m .for-masters .ensures) (a .c) (m .before .check-cycle .ensures) _ (c .before .r .given .1)
 
 returns-2 : tie.Need-returns-2
-unfolding writeTraceOf traceWritten
 returns-2 c = let m = c .before .before .before in let a = m .before .before .before .args in
-    let check = m .for-masters .ensures ∙ ap (forMasters (a .n)) (m .before .check-cycle .ensures) in
-    write-short _ _ check (traceLine (a .c)) (a .buf .now) 31 (c .before .enum-told .given .1) refl (c .if1 .taken)
+    trace-short (a .n) (a .buf .now) _ _ (m .for-masters .ensures) (a .c) (m .before .check-cycle .ensures) (c .before .enum-told .given .1) (c .if1 .taken)
 
 same-length : tie.Need-same-length
 same-length c = search needs
 
 returns-3 : tie.Need-returns-3
-unfolding writeTraceOf traceWritten
 returns-3 c = let m = c .before .before .before .before .before .before .before .before .before .before .before .before in let a = m .before .before .before .args in
-    let check = m .for-masters .ensures ∙ ap (forMasters (a .n)) (m .before .check-cycle .ensures) in
-    write-whole _ _ check (traceLine (a .c)) (a .buf .now) 31 _ (c .before .before .before .before .before .before .before .before .before .before .enum-told .given .1) refl (c .before .before .before .before .before .before .before .before .before .if1 .left)
-    (then-sets (a .buf .now) _ _ 0 16 (take 15 (stimulusLine (a .c .inputs)) ++ (9 ∷ [])) (drop 16 (traceLine (a .c))) (c .before .before .before .before .before .before .put-inputs .ensures) refl (c .before .before .put-outputs .ensures))
+    trace-written (a .n) (a .buf .now) _ _ (m .for-masters .ensures) (a .c) (m .before .check-cycle .ensures) (c .before .before .before .before .before .before .before .before .before .before .enum-told .given .1) _ _ (c .before .before .before .before .before .before .before .before .before .if1 .left)
+    (c .before .before .before .before .before .before .put-inputs .ensures) (c .before .before .put-outputs .ensures)
 
 pub write-trace-spec : {M : Type 1} → statement M
 write-trace-spec =

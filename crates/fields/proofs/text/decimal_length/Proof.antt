@@ -1,5 +1,5 @@
 -- `decimal_length` meets its contract. Invariant: the digits counted and those of the rest are the number's. Measure: the rest.
-use Prim.Native.Nat.{ℕ, _+_, _*_, _%_}
+use Prim.Native.Nat.{ℕ, _+_, _%_}
 use mathlib.Core.Path.{_≡_, refl, ap}
 use mathlib.Core.List.{List, [], _∷_}
 use native.Mathlib.Omega.{arith}

@@ -1,11 +1,9 @@
 -- `put_word` meets its contract. Invariant: the bytes passed are written. Measure: the bytes left.
-use Prim.Native.Nat.{ℕ, _+_, _-_, _≤_, _<_}
-use mathlib.Core.Path.{_≡_, refl, sym, _∙_}
-use mathlib.Core.List.{List, [], _∷_}
+use Prim.Native.Nat.{_+_, _-_, _≤_, _<_}
+use mathlib.Core.Path.{_≡_, refl, _∙_}
 use native.Mathlib.Omega.{arith}
-use native.Mathlib.Nat.{le-antisymm}
 use native.Mathlib.Numerals.{add-one}
-use lib.ListN.{length, take, getD, length-set}
+use lib.ListN.{length, take, length-set}
 use lib.Seq.{sets, take-suc, take-all, length-take-le}
 use Rattle.fields.proofs.Stores.{then-sets}
 use Rattle.fields.proofs.text.put_word.Statement.{statement}

@@ -1,5 +1,5 @@
 -- `starts_with` meets its contract. Invariant: the bytes passed are the same. Measure: the bytes left.
-use Prim.Native.Nat.{ℕ, _-_, _≤_}
+use Prim.Native.Nat.{_-_, _≤_}
 use mathlib.Core.Path.{_≡_, refl}
 use native.Mathlib.Omega.{arith}
 use native.Mathlib.Nat.{le-antisymm}

@@ -45,14 +45,18 @@ module _ (n : ℕ) (s : List ℕ) (p : ℕ) where
       unfolding spotOf
       spot-inside l ne = simp (← tested, not-false ok o, le-ltb (length s) p l, ne-eqb p (length s) ne)
 
-  pub inside-within : spotOf n s p ≡ Inside → p ≤ length s
-  unfolding spotOf
-  inside-within e = go (mastersOk n) (ltb (length s) p) refl refl
-    where
-      go : (a b : Bool) → mastersOk n ≡ a → ltb (length s) p ≡ b → p ≤ length s
-      go true true q r = let z : Beyond ≡ Inside = simp (q, r) at e in let y : _≡_ {A = ℕ} 0 1 = cc in omega arith
-      go true false q r = ltb-false (length s) p r
-      go false b q r = let z : Wrong ≡ Inside = simp q at e in let y : _≡_ {A = ℕ} 0 1 = cc in omega arith
+  module _ (found : Spot) (tested : found ≡ spotOf n s p) (told : found ≡ Inside) where
+    pub inside-within : p ≤ length s
+    unfolding spotOf
+    inside-within = go (mastersOk n) (ltb (length s) p) refl refl
+      where
+        here : spotOf n s p ≡ Inside
+        here = sym tested ∙ told
+
+        go : (a b : Bool) → mastersOk n ≡ a → ltb (length s) p ≡ b → p ≤ length s
+        go true true q r = let z : Beyond ≡ Inside = simp (q, r) at here in let y : _≡_ {A = ℕ} 0 1 = cc in omega arith
+        go true false q r = ltb-false (length s) p r
+        go false b q r = let z : Wrong ≡ Inside = simp q at here in let y : _≡_ {A = ℕ} 0 1 = cc in omega arith
 
   pub answer-by-spot : {A : Type 0} (f : Place → A) (none : A) (fs : List Field)
       → cond (mastersOk n) (f (place fs s p)) none ≡ bySpot (spotOf n s p) none (f beyond) (f atEnd) (f (cond (wholeAt fs s p) whole cut))
@@ -67,8 +71,10 @@ module _ (n : ℕ) (s : List ℕ) (p : ℕ) where
       go true false false false q r t u = simp (q, r, t, u, lt-ltb (length s - p) (width fs) (leb-false (width fs) (length s - p) u))
       go false b c d q r t u = simp q
 
-pub whole-fits : (fs : List Field) (s : List ℕ) (p : ℕ) → p ≤ length s → wholeAt fs s p ≡ true → p + width fs ≤ length s
-whole-fits fs s p l e = omega (arith, leb-true (width fs) (length s - p) (and-left (leb (width fs) (length s - p)) (parted fs s p) e))
+pub whole-fits : (fs : List Field) (n : ℕ) (s : List ℕ) (p : ℕ) (found : Spot) (w : Bool)
+    → found ≡ spotOf n s p → found ≡ Inside → w ≡ wholeAt fs s p → w ≡ true → p + width fs ≤ length s
+whole-fits fs n s p found w tested told e h =
+    omega (arith, inside-within n s p found tested told, leb-true (width fs) (length s - p) (and-left (leb (width fs) (length s - p)) (parted fs s p) (sym e ∙ h)))
 
 pub by-check : {A X : Type 0} (f : Check → A) (k : X → Check) (x y : X) (c g : Check) (r : A) → x ≡ y → c ≡ k x → c ≡ g → r ≡ f g → r ≡ f (k y)
 by-check f k x y c g r e t told h = h ∙ ap f (sym told ∙ t ∙ ap k e)
