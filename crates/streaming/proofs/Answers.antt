@@ -66,7 +66,7 @@ module _ (s : State) (block out : List ℕ) where
         (rw (t, f) (h .0), rw (t, f) (h .1))
 
 -- what is kept passes its test exactly if it has the facts
-bench-facts : (b : Bench) → length (b .judge .lost) ≡ 16 → benchFormed b ≡ true → Formed b
+pub bench-facts : (b : Bench) → length (b .judge .lost) ≡ 16 → benchFormed b ≡ true → Formed b
 unfolding benchFormed
 bench-facts b size e =
     record {

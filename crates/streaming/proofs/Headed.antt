@@ -120,7 +120,7 @@ pub end-is : (b : Bench) → mastersOk (b .judge .n) ≡ true → written judgeT
 unfolding written judgeTurn readTraceOf place
 end-is b good = rw good
 
-formed-good : (b : Bench) → benchFormed b ≡ true → mastersOk (b .judge .n) ≡ true
+pub formed-good : (b : Bench) → benchFormed b ≡ true → mastersOk (b .judge .n) ≡ true
 unfolding benchFormed judgeFormed
 formed-good b e = search (and-left, and-right) depth 12
 

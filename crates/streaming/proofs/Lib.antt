@@ -6,3 +6,6 @@ pub mod Answers
 pub mod Reports
 pub mod Judged
 pub mod Headed
+pub mod Near
+pub mod Promises
+pub mod Unique

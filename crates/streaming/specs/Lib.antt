@@ -2,3 +2,4 @@
 pub mod Turns
 pub mod Breaches
 pub mod Heads
+pub mod Promises
