@@ -1,5 +1,5 @@
 // The arbiter of document 01, one cycle at a time: the state goes in by value and comes back.
-mod walk;
+pub mod walk;
 
 use rules::Answer;
 use rules::Check;

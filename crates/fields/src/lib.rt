@@ -34,7 +34,7 @@ pub fn for_masters(n: u32, k: Check) -> Check
 }
 
 // The digit that a byte writes in lower case, and `none` where it writes none.
-fn digit_or(b: u8, none: u32) -> u32
+pub fn digit_or(b: u8, none: u32) -> u32
     ensures { λ r. ⌜ (r ≡ cond (ltb (hexDigit b) 16) (hexDigit b) none) × (r ≤ none + 15) ⌝ }
 {
     let c = b as u32;

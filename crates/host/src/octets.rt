@@ -3,25 +3,17 @@ use hosting::Lent;
 use rules::Phase;
 use rules::State;
 ghost use mathlib.Core.Path.{_≡_};
-ghost use mathlib.Core.List.{[], _∷_};
 ghost use Prim.Native.Nat.{_%_, _≤_, _<_};
 ghost use lib.ListN.{length};
 ghost use Rattle.rules.specs.State.{WellFormed};
 ghost use Rattle.rules.specs.Step.{flagOf};
-ghost use Rattle.hosting.specs.Bytes.{numberLow, phaseByte, leftByte, phaseOf, isState, stateIn, bytesState};
+ghost use Rattle.hosting.specs.Bytes.{phaseByte, leftByte, phaseOf, isState, stateIn, bytesState};
 ghost use Rattle.hosting.specs.Calls.{stateStored};
 
 fn wide(b: u8) -> u32
     ensures { λ r. ⌜ r ≡ b ⌝ }
 {
     b as u32
-}
-
-// The number that four bytes write, low byte first.
-fn number_low(a: u8, b: u8, c: u8, d: u8) -> u32
-    ensures { λ r. ⌜ r ≡ numberLow 4 (a ∷ b ∷ c ∷ d ∷ []) 0 ⌝ }
-{
-    a as u32 + 256 * (b as u32 + 256 * (c as u32 + 256 * (d as u32)))
 }
 
 fn phase_of(p: u32, k: u32) -> Phase
@@ -54,7 +46,7 @@ fn state_in(b: &[u8]) -> State
     let p = wide(b[5]);
     let k = wide(b[6]);
     let phase = phase_of(p, k);
-    let count = number_low(b[8], b[9], b[10], b[11]);
+    let count = words::number(b[8], b[9], b[10], b[11]);
     State {
         n,
         g,

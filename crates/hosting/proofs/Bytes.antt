@@ -1,63 +1,27 @@
 -- The twelve bytes and the well-formed states correspond one to one.
 --
---   slots-take      == the first elements of a list, one by one
---   bytes-of-number == the number that w bytes write has those bytes
---   left-small      == k of a well-formed state is a byte
---   state-bytes     == a well-formed state has twelve bytes
---   state-again     == they write that state, whatever follows them
---   bytes-again     == bytes that write a state are its bytes
-use Prim.Native.Nat.{ℕ, zero, suc, _+_, _/_, _%_, _≤_, _<_}
+--   left-small  == k of a well-formed state is a byte
+--   state-bytes == a well-formed state has twelve bytes
+--   state-again == they write that state, whatever follows them
+--   bytes-again == bytes that write a state are its bytes
+use Prim.Native.Nat.{ℕ, zero, suc, _≤_, _<_}
 use mathlib.Core.Path.{_≡_, refl, sym, _∙_}
 use mathlib.Core.Bool.{Bool, true, false, _||_}
-use mathlib.Core.List.{List, [], _∷_, _++_}
+use mathlib.Core.List.{List, _++_}
 use native.Mathlib.Omega.{arith}
-use native.Mathlib.Numerals.{add-one}
 use borrow.Author.Tests.{leb-true, eqb-true}
 use lib.Dec.{eqb, leb}
-use lib.ListN.{length, getD, take, drop}
-use lib.Seq.{drop-cons}
+use lib.ListN.{length, getD, take}
 use Rattle.rules.specs.declared.Phase.{Phase}
 use Rattle.rules.specs.declared.Phase.the-variants.{Fresh, Fixed, Open, Done}
 use Rattle.rules.specs.declared.State.{State}
 use Rattle.rules.specs.State.{phaseOk, WellFormed}
 use Rattle.rules.specs.Step.{flagOf}
 use Rattle.rules.proofs.Choice.{and-left, and-right}
+use Rattle.words.specs.Words.{lowFirst}
+use Rattle.words.proofs.Words.{Bytes, one-more, slots, slots-take, number-bytes, bytes-of-number}
 use Rattle.hosting.specs.declared.Lent.the-variants.{Known}
-use Rattle.hosting.specs.Bytes.{stateSize, lowFirst, numberLow, phaseByte, leftByte, stateBytes, phaseOf, isState, stateIn, bytesState}
-
--- a list of bytes: what a lent slice holds
-pub record Bytes (b : List ℕ) : Type 0 where
-  pub below : (i : ℕ) → getD b i 0 < 256
-
--- w elements of a list from p on
-abbrev slots : List ℕ → ℕ → ℕ → List ℕ
-slots b p zero = []
-slots b p (suc w) = getD b p 0 ∷ slots b (p + 1) w
-
-slots-take : (b : List ℕ) (w p : ℕ) → p + w ≤ length b → take w (drop p b) ≡ slots b p w
-slots-take b zero p h = refl
-slots-take b (suc w) p h = rw (drop-cons b p 0 (omega arith), ← add-one, slots-take b w (p + 1) (omega arith))
-
-bytes-of-number : (w : ℕ) (b : List ℕ) (p : ℕ) → Bytes b → lowFirst w (numberLow w b p) ≡ slots b p w
-bytes-of-number zero b p h = refl
-bytes-of-number (suc w) b p h =
-    let low : numberLow (suc w) b p % 256 ≡ getD b p 0 = omega (arith, h .below p) in
-    let high : numberLow (suc w) b p / 256 ≡ numberLow w b (p + 1) = omega (arith, h .below p) in
-    rw (low, high, bytes-of-number w b (p + 1) h)
-
-none-bytes : Bytes []
-none-bytes = record { below = λ i. omega arith }
-
-one-more : {x : ℕ} {b : List ℕ} → x < 256 → Bytes b → Bytes (x ∷ b)
-one-more {x} {b} h w = record { below = at }
-  where
-    at : (i : ℕ) → getD (x ∷ b) i 0 < 256
-    at zero = h
-    at (suc i) = w .below i
-
-number-bytes : (w v : ℕ) → Bytes (lowFirst w v)
-number-bytes zero v = none-bytes
-number-bytes (suc w) v = one-more (omega arith) (number-bytes w (v / 256))
+use Rattle.hosting.specs.Bytes.{stateSize, phaseByte, leftByte, stateBytes, phaseOf, isState, stateIn, bytesState}
 
 flag-again : (f : Bool) → eqb (flagOf f) 1 ≡ f
 flag-again true = refl

@@ -5,13 +5,11 @@
 --
 -- The phase is 0 Fresh, 1 Fixed, 2 Open, 3 Done; k is 0 unless Fixed; a flag is 0 or 1.
 --
---   stateSize       == the bytes of a state
---   lowFirst w v    == the number v in w bytes, low byte first
---   numberLow w b p == the number that the w bytes at p write so
---   stateBytes s    == the bytes of the state s
---   isState b       == b begins with the bytes of a state, well formed or not
---   bytesState b    == the state whose bytes b begins with, if there is one
-use Prim.Native.Nat.{ℕ, zero, suc, _+_, _*_, _/_, _%_}
+--   stateSize    == the bytes of a state
+--   stateBytes s == the bytes of the state s
+--   isState b    == b begins with the bytes of a state, well formed or not
+--   bytesState b == the state whose bytes b begins with, if there is one
+use Prim.Native.Nat.{ℕ}
 use mathlib.Core.Bool.{Bool, _&&_, _||_, cond}
 use mathlib.Core.List.{List, [], _∷_}
 use lib.Dec.{eqb, leb}
@@ -20,19 +18,12 @@ use Rattle.rules.specs.declared.Phase.{Phase}
 use Rattle.rules.specs.declared.Phase.the-variants.{Fresh, Fixed, Open, Done}
 use Rattle.rules.specs.declared.State.{State}
 use Rattle.rules.specs.Step.{flagOf}
+use Rattle.words.specs.Words.{lowFirst, numberLow}
 use Rattle.hosting.specs.declared.Lent.{Lent}
 use Rattle.hosting.specs.declared.Lent.the-variants.{Known, Unknown}
 
 abbrev pub stateSize : ℕ
 stateSize = 12
-
-abbrev pub lowFirst : ℕ → ℕ → List ℕ
-lowFirst zero v = []
-lowFirst (suc w) v = v % 256 ∷ lowFirst w (v / 256)
-
-abbrev pub numberLow : ℕ → List ℕ → ℕ → ℕ
-numberLow zero b p = 0
-numberLow (suc w) b p = getD b p 0 + 256 * numberLow w b (p + 1)
 
 abbrev pub phaseByte : Phase → ℕ
 phaseByte Fresh = 0

@@ -1,7 +1,6 @@
 -- A block taken line by line, for any program that goes by lines.
 --
 --   Program ..      == a line writes no more than most bytes, and what is kept stays well formed
---   Going ..        == where such a loop stands: the lines so far, the bytes they wrote, and that the rest of the block is still to be taken
 --   Ended ..        == how the block ended: all its bytes, and the state
 --   begun           == a loop stands so at the start
 --   same-size, room, lent == the buffer keeps its length, and has room for one line more
@@ -18,14 +17,11 @@ use lib.Seq.{drop-drop}
 use Rattle.streams.specs.Streams.{Turn, goes, stops, Stretch, on, done, before, step, stretch}
 use Rattle.streams.specs.Blocks.{ByLines, roomFor}
 use Rattle.streaming.specs.Turns.{over, bytesIn, goesOn, stateAfter, Lined}
+use Rattle.streaming.specs.Going.{whole, Going}
 use Rattle.streaming.proofs.Parts.{tail-is, written-on}
 
--- a block taken to its end
-abbrev whole : {S : Type 0} → (S → List ℕ → Turn S) → S → List ℕ → Stretch S
-whole turn s block = stretch turn (length block) s block
-
 module _ {S : Type 0} where
-  before-none : (t : Stretch S) → before [] t ≡ t
+  pub before-none : (t : Stretch S) → before [] t ≡ t
   before-none (on bytes s) = refl
   before-none (done bytes s) = refl
 
@@ -54,7 +50,7 @@ module _ {S : Type 0} (turn : S → List ℕ → Turn S) (width : ℕ) (L : ByLi
           rw e (ap (before bytes) (later t n (simp length-drop (omega arith)) (simp length-drop (omega arith))))
       go (stops bytes) e later = rw e
 
-  line-goes : (s t : S) (rest bytes : List ℕ) (k : ℕ) → 0 < length rest → turn s rest ≡ goes bytes t k
+  pub line-goes : (s t : S) (rest bytes : List ℕ) (k : ℕ) → 0 < length rest → turn s rest ≡ goes bytes t k
       → whole turn s rest ≡ before bytes (whole turn t (drop k rest))
   unfolding stretch
   line-goes s t [] bytes k h e = absurd (omega arith)
@@ -77,19 +73,6 @@ pub record Program {S : Type 0} (turn : S → List ℕ → Turn S) (width most :
   pub lines : ByLines width turn
   pub few : (s : S) (rest : List ℕ) → Formed s → length (bytesIn (turn s rest)) ≤ most
   pub stays : (s : S) (rest : List ℕ) → Formed s → Formed (stateAfter s (turn s rest))
-
--- s₀ is the state at the start of the block, and out₀ the buffer
-pub record Going {S : Type 0} (turn : S → List ℕ → Turn S) (width most : ℕ) (Formed : S → Type 0) (s₀ : S) (block out₀ : List ℕ)
-    (s : S) (at : ℕ) (out : List ℕ) (w : ℕ) : Type 0 where
-  pub formed : Formed s
-  pub lines : ℕ
-  pub place : at ≡ lines * width
-  pub inside : at ≤ length block
-  pub few : w ≤ lines * most
-  pub bytes : List ℕ
-  pub size : length bytes ≡ w
-  pub puts : out ≡ over bytes out₀
-  pub left : whole turn s₀ block ≡ before bytes (whole turn s (drop at block))
 
 pub record Ended {S : Type 0} (turn : S → List ℕ → Turn S) (s₀ : S) (block out₀ : List ℕ) (end : List ℕ → S → Stretch S)
     (s : S) (out : List ℕ) (w : ℕ) : Type 0 where

@@ -18,6 +18,7 @@ ghost use mathlib.Core.Path.{_≡_};
 ghost use mathlib.Core.Bool.{true};
 ghost use Prim.Native.Nat.{_≤_};
 ghost use lib.ListN.{length};
+ghost use Rattle.rules.specs.Codes.{mostCycles};
 ghost use Rattle.rules.specs.State.{mastersOk, resetState};
 ghost use Rattle.rulebook.specs.State.{startOf};
 ghost use Rattle.formats.specs.declared.Word.the-variants.{Trace};
@@ -25,7 +26,22 @@ ghost use Rattle.formats.specs.Headers.{header};
 ghost use Rattle.streams.specs.Blocks.{arbiterBlockOf, arbiterBlockLeft, benchFormed, judgeBlockOf, judgeBlockLeft};
 ghost use Rattle.streaming.specs.declared.ArbiterHead.the-variants.{Begun};
 ghost use Rattle.streaming.specs.Turns.{over};
+ghost use Rattle.streaming.specs.Going.{Within};
 ghost use Rattle.streaming.specs.Heads.{arbiterHeadOf, arbiterHeadLeft, judgeHeadOf, judgeHeadLeft, judgeEndOf, judgeEndLeft};
+
+// Where a glide must end in a block of so many bytes: after the last whole line of its width, and after the last cycle of a run.
+fn end_within(width: usize, size: usize, count: u32) -> usize
+    requires { ⌜ (1 ≤ width) × (count ≤ mostCycles) ⌝ }
+    ensures { λ r. ⌜ Within width size count r ⌝ }
+{
+    let lines = size / width;
+    let left = (1000000 - count) as usize;
+    if lines < left {
+        lines * width
+    } else {
+        left * width
+    }
+}
 
 // What a stimulus header comes to: the bytes of the trace's header and the state to go on from, those of a refusal line, or 9.
 pub enum ArbiterHead {

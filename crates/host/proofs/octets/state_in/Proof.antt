@@ -37,20 +37,20 @@ wide-requires-5 c κs = search needs
 phase-of-requires : tie.Need-phase-of-requires
 phase-of-requires c κs = search needs
 
-shared-slice-read-number-low : tie.Need-shared-slice-read-number-low
-shared-slice-read-number-low c = search needs
+shared-slice-read-number : tie.Need-shared-slice-read-number
+shared-slice-read-number c = search needs
 
-shared-slice-read-number-low-2 : tie.Need-shared-slice-read-number-low-2
-shared-slice-read-number-low-2 c = search needs
+shared-slice-read-number-2 : tie.Need-shared-slice-read-number-2
+shared-slice-read-number-2 c = search needs
 
-shared-slice-read-number-low-3 : tie.Need-shared-slice-read-number-low-3
-shared-slice-read-number-low-3 c = search needs
+shared-slice-read-number-3 : tie.Need-shared-slice-read-number-3
+shared-slice-read-number-3 c = search needs
 
-shared-slice-read-number-low-4 : tie.Need-shared-slice-read-number-low-4
-shared-slice-read-number-low-4 c = search needs
+shared-slice-read-number-4 : tie.Need-shared-slice-read-number-4
+shared-slice-read-number-4 c = search needs
 
-number-low-requires : tie.Need-number-low-requires
-number-low-requires c κs = search needs
+number-requires : tie.Need-number-requires
+number-requires c κs = search needs
 
 shared-slice-read-t10 : tie.Need-shared-slice-read-t10
 shared-slice-read-t10 c = search needs
@@ -62,7 +62,7 @@ returns : tie.Need-returns
 unfolding stateIn
 returns c = let count = c .before .before in let phase = count .before .before .before .before .before in let k = phase .before in
     let p = k .before .before in let m = p .before .before in let g = m .before .before in let n = g .before .before in
-    rw (count .number-low .ensures, phase .phase-of .ensures, k .wide5 .ensures, p .wide4 .ensures, m .wide3 .ensures, g .wide2 .ensures, n .wide .ensures)
+    rw (count .number .ensures, phase .phase-of .ensures, k .wide5 .ensures, p .wide4 .ensures, m .wide3 .ensures, g .wide2 .ensures, n .wide .ensures)
 
 pub state-in-spec : {M : Type 1} → statement M
 state-in-spec =
@@ -79,11 +79,11 @@ state-in-spec =
     shared-slice-read-wide-5
     wide-requires-5
     phase-of-requires
-    shared-slice-read-number-low
-    shared-slice-read-number-low-2
-    shared-slice-read-number-low-3
-    shared-slice-read-number-low-4
-    number-low-requires
+    shared-slice-read-number
+    shared-slice-read-number-2
+    shared-slice-read-number-3
+    shared-slice-read-number-4
+    number-requires
     shared-slice-read-t10
     shared-slice-read-t21
     returns)

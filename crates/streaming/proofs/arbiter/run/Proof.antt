@@ -1,98 +1,79 @@
--- `run` meets its contract. The loop's invariant: the state is well formed, and the block is taken so far. The measure: what is left of it.
-use borrow.Author.Tests.{not-true, not-false}
+-- `run` meets its contract: what a glide leaves is taken line after line.
 use Prim.Native.Nat.{_-_}
+use mathlib.Core.Path.{_≡_, ap}
 use native.Mathlib.Omega.{arith}
 use borrow.Author.Needs.{needs}
-use lib.ListN.{length}
-use Rattle.rules.specs.State.{WellFormed}
-use Rattle.streams.specs.Arbiter.{arbiterTurn}
-use Rattle.streaming.proofs.Arbitrated.{arbiter-program, block-stopped, block-used}
-use Rattle.streaming.proofs.Stretches.{Going, begun, same-size, room, lent, small, later-size, goes-on, stopped, used-up}
+use lib.ListN.{length, take, drop, length-drop}
+use Rattle.streaming.proofs.Parts.{tail-is}
+use Rattle.streaming.proofs.Stretches.{same-size, room}
+use Rattle.streaming.proofs.Joined.{rest-room}
+use Rattle.streaming.proofs.Arbitrated.{arbiter-program}
+use Rattle.streaming.proofs.Gone.{within, joined}
 use Rattle.streaming.proofs.arbiter.run.Statement.{statement}
 use Rattle.streaming.proofs.arbiter.run.Tie as tie
 
-abbrev Inv-loop : tie.InvT-loop
-Inv-loop block out₀ state₀ at₀ w₀ out state at w =
-    Going arbiterTurn 16 31 WellFormed state₀ block out₀ state at out w
+glide-requires : tie.Need-glide-requires
+glide-requires c κs = search needs
 
-abbrev μ-loop : tie.MeasureT-loop
-μ-loop block out₀ state₀ at₀ w₀ out state at w = length block - at
+sub-crawl : tie.Need-sub-crawl
+sub-crawl c = search needs
 
-loop-holds : tie.Need-loop-holds Inv-loop μ-loop
-loop-holds c = begun arbiter-program (search needs)
+part-crawl-start : tie.Need-part-crawl-start
+part-crawl-start c = search needs
 
-sub-line : tie.Need-sub-line Inv-loop μ-loop
-sub-line c = search needs
+part-crawl-end : tie.Need-part-crawl-end
+part-crawl-end c = search needs
 
-part-line-start : tie.Need-part-line-start Inv-loop μ-loop
-part-line-start c = search needs
+sub-crawl-2 : tie.Need-sub-crawl-2
+sub-crawl-2 c =
+    let g = c .before .before .before .before in
+    omega (arith, room arbiter-program (g .glide .ensures) (g .before .before .before .before .pre .1))
 
-part-line-end : tie.Need-part-line-end Inv-loop μ-loop
-part-line-end c = search needs
+part-crawl-start-2 : tie.Need-part-crawl-start-2
+part-crawl-start-2 c =
+    let g = c .before .before .before .before in
+    omega (arith, room arbiter-program (g .glide .ensures) (g .before .before .before .before .pre .1))
 
-sub-line-2 : tie.Need-sub-line-2 Inv-loop μ-loop
-sub-line-2 c = omega (arith, room arbiter-program (c .before .before .loop .inv) (c .before .before .before .before .before .pre .1))
+part-crawl-end-2 : tie.Need-part-crawl-end-2
+part-crawl-end-2 c = search needs
 
-part-line-start-2 : tie.Need-part-line-start-2 Inv-loop μ-loop
-part-line-start-2 c = omega (arith, room arbiter-program (c .before .before .loop .inv) (c .before .before .before .before .before .pre .1))
+crawl-requires : tie.Need-crawl-requires
+crawl-requires c κs =
+    let g = c .before .before .before .before .before in
+    (g .glide .ensures .formed, rest-room arbiter-program (g .glide .ensures) (g .before .before .before .before .pre .1))
 
-part-line-end-2 : tie.Need-part-line-end-2 Inv-loop μ-loop
-part-line-end-2 c = search needs
+add-t14 : tie.Need-add-t14
+add-t14 c =
+    let a = c .before .before .before .before in
+    let g = a .before .before .before .before .before .before in
+    let w = g .glide .result .written in
+    let out = g .glide .last .1 .1 .0 in
+    let same : length (a .crawl .last .1 .1 .0) ≡ length (take (length out - w) (drop w out)) = search needs in
+    let fits = within (g .glide .ensures) (a .crawl .result) _ (a .crawl .ensures .0) (a .crawl .ensures .1) in
+    let big = g .before .before .before .before .pre .1 in
+    let full : length out ≡ length (g .before .before .before .before .args .out .now) = same-size arbiter-program (g .glide .ensures) big in
+    omega (arith, room arbiter-program (g .glide .ensures) big, full, g .before .before .before .before .good .1 .1 .0 .0, fits, same, ap length (tail-is w out), length-drop w out)
 
-line-requires : tie.Need-line-requires Inv-loop μ-loop
-line-requires c κs = (c .before .before .before .loop .inv .formed, lent arbiter-program (c .before .before .before .loop .inv) (c .before .before .before .before .before .before .pre .1))
+same-length : tie.Need-same-length
+same-length c = search needs
 
-add-w : tie.Need-add-w Inv-loop μ-loop
-add-w c = let a = c .before .before .before .before .before .before .before .before in
-    omega (arith, room arbiter-program (a .loop .inv) (a .before .before .before .pre .1), small arbiter-program (a .loop .inv) (search needs) (c .before .before .before .before .line .ensures))
-
-same-length : tie.Need-same-length Inv-loop μ-loop
-same-length c = let a = c .before .before .before .before .before .before .before .before .before .before in
-    later-size arbiter-program (a .loop .inv) (search needs) (c .before .before .before .before .before .before .line .ensures) (a .before .before .before .pre .1)
-
-returns : tie.Need-returns Inv-loop μ-loop
-returns c = let a = c .before .before .before .before .before .before .before .before .before .before in
-    block-stopped (stopped arbiter-program (a .loop .inv) (search needs) (c .before .before .before .before .before .before .line .ensures) (not-true _ (c .if1 .taken)))
-
-add-at : tie.Need-add-at Inv-loop μ-loop
-add-at c = let a = c .before .before .before .before .before .before .before .before .before .before in
-    let g = goes-on arbiter-program (a .loop .inv) (search needs) (c .before .before .before .before .before .before .line .ensures) (not-false _ (c .if1 .left)) in
-    omega (arith, g .inside)
-
-loop-less : tie.Need-loop-less Inv-loop μ-loop
-loop-less c = let a = c .before .before .before .before .before .before .before .before .before .before in
-    let g = goes-on arbiter-program (a .loop .inv) (search needs) (c .before .before .before .before .before .before .line .ensures) (not-false _ (c .if1 .left)) in
-    omega (arith, g .inside)
-
-loop-again : tie.Need-loop-again Inv-loop μ-loop
-loop-again c = let a = c .before .before .before .before .before .before .before .before .before .before in
-    goes-on arbiter-program (a .loop .inv) (search needs) (c .before .before .before .before .before .before .line .ensures) (not-false _ (c .if1 .left))
-
-same-length-2 : tie.Need-same-length-2 Inv-loop μ-loop
-same-length-2 c = same-size arbiter-program (c .before .loop .inv) (c .before .before .before .before .pre .1)
-
-returns-2 : tie.Need-returns-2 Inv-loop μ-loop
-returns-2 c = block-used (used-up arbiter-program (c .before .loop .inv) (c .loop-test .left))
+returns : tie.Need-returns
+returns c =
+    let a = c .before .before .before .before in
+    joined (a .before .before .before .before .before .before .glide .ensures) (a .crawl .result) _ (a .crawl .ensures .0) (a .crawl .ensures .1)
 
 pub run-spec : {M : Type 1} → statement M
 run-spec =
     tie.close
     (tie.spec
-    Inv-loop
-    μ-loop
-    loop-holds
-    sub-line
-    part-line-start
-    part-line-end
-    sub-line-2
-    part-line-start-2
-    part-line-end-2
-    line-requires
-    add-w
+    glide-requires
+    sub-crawl
+    part-crawl-start
+    part-crawl-end
+    sub-crawl-2
+    part-crawl-start-2
+    part-crawl-end-2
+    crawl-requires
+    add-t14
     same-length
-    returns
-    add-at
-    loop-less
-    loop-again
-    same-length-2
-    returns-2)
+    returns)

@@ -1,0 +1,3 @@
+pub mod Phases
+pub mod Decision
+pub mod Step

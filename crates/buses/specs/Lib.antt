@@ -1,0 +1,2 @@
+-- The arbiter's state in plain numbers.
+pub mod Buses

@@ -1,0 +1,10 @@
+pub mod Halves
+pub mod Losing
+pub mod Seats
+pub mod Ready
+pub mod Taking
+pub mod Flags
+pub mod Plain
+pub mod Kept
+pub mod Numbered
+pub mod Runs

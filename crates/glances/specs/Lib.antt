@@ -1,0 +1,3 @@
+-- What a glance at a line finds.
+pub mod Glances
+pub mod Puts

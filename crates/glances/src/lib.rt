@@ -1,0 +1,88 @@
+// Lines at a glance. A line that is surely good is read with few tests; any other is left to the readers of `lines`.
+mod codes;
+mod put;
+mod table;
+
+pub use put::put_trace;
+use rules::Cycle;
+use rules::Inputs;
+use rules::Outputs;
+pub use table::digits;
+ghost use mathlib.Core.Path.{_≡_};
+ghost use mathlib.Core.Bool.{true};
+ghost use Prim.Native.Nat.{_≤_};
+ghost use lib.ListN.{length};
+ghost use Rattle.rules.specs.State.{mastersOk};
+ghost use Rattle.formats.specs.declared.StimulusRead.the-variants.{Line as StimulusLine};
+ghost use Rattle.formats.specs.declared.TraceRead.the-variants.{Line as TraceLine};
+ghost use Rattle.formats.specs.Lines.{readStimulusOf, readTraceOf};
+ghost use Rattle.glances.specs.Glances.{Digits};
+
+// A stimulus line: whether it is surely good, and its columns if so.
+pub struct Stimulus {
+    pub good: bool,
+    pub inputs: Inputs,
+}
+
+// The stimulus line that s begins with.
+pub fn see_stimulus(digits: &[u32], n: u32, s: &[u8]) -> Stimulus
+    requires { ⌜ Digits (now digits) × (mastersOk n ≡ true) × (16 ≤ length (now s)) ⌝ }
+    ensures { λ r. ⌜ (r .good ≡ true → readStimulusOf n (now (s .entry)) 0 ≡ StimulusLine (r .inputs) 16) ⌝ }
+{
+    let hbusreq = table::mask_at(digits, s, 0);
+    let hlock = table::mask_at(digits, s, 5);
+    let codes = codes::codes_at(s, 10);
+    let absent = ((hbusreq | hlock) >> n) as u64;
+    let apart = codes::apart(s[4]);
+    let inputs = Inputs {
+        hbusreq,
+        hlock,
+        hready: codes.hready,
+        htrans: codes.htrans,
+        hburst: codes.hburst,
+    };
+    Stimulus {
+        good: codes.bad | absent | apart == 0,
+        inputs,
+    }
+}
+
+// A trace line: whether it is surely good, and its columns if so.
+pub struct Trace {
+    pub good: bool,
+    pub cycle: Cycle,
+}
+
+// The trace line that s begins with.
+pub fn see_trace(digits: &[u32], n: u32, s: &[u8]) -> Trace
+    requires { ⌜ Digits (now digits) × (mastersOk n ≡ true) × (31 ≤ length (now s)) ⌝ }
+    ensures { λ r. ⌜ (r .good ≡ true → readTraceOf n (now (s .entry)) 0 ≡ TraceLine (r .cycle) 31) ⌝ }
+{
+    let hbusreq = table::mask_at(digits, s, 0);
+    let hlock = table::mask_at(digits, s, 5);
+    let codes = codes::codes_at(s, 9);
+    let hgrant = table::mask_at(digits, s, 16);
+    let hmaster = table::digit_at(digits, s, 21);
+    let flags = codes::flags_at(s);
+    let absent = ((hbusreq | hlock | hgrant) >> n) as u64;
+    let apart = codes::apart(s[4]) | codes::apart(s[20]) | codes::apart(s[22]);
+    let inputs = Inputs {
+        hbusreq,
+        hlock,
+        hready: codes.hready,
+        htrans: codes.htrans,
+        hburst: codes.hburst,
+    };
+    let outputs = Outputs {
+        hgrant,
+        hmaster,
+        hmastlock: flags.hmastlock,
+        decide: flags.decide,
+        granted: flags.granted,
+        busreq: flags.busreq,
+    };
+    Trace {
+        good: (codes.bad | flags.bad | absent | apart == 0) & (hmaster < n),
+        cycle: Cycle { inputs, outputs },
+    }
+}

@@ -1,0 +1,42 @@
+-- Where a call stands in a block that it takes line by line.
+--
+--   whole turn s block == the block taken to its end
+--   Going ..           == the lines so far, the bytes they wrote, and that the rest of the block is still to be taken
+--   Passing ..         == the same where nothing was written
+--   Within width size count end == end is a whole number of lines in a block of that size, and no more than a run still takes after count cycles
+use Prim.Native.Nat.{ℕ, _+_, _*_, _≤_}
+use mathlib.Core.Path.{_≡_}
+use mathlib.Core.List.{List}
+use lib.ListN.{length, drop}
+use Rattle.rules.specs.Codes.{mostCycles}
+use Rattle.streams.specs.Streams.{Turn, Stretch, before, stretch}
+use Rattle.streaming.specs.Turns.{over}
+
+abbrev pub whole : {S : Type 0} → (S → List ℕ → Turn S) → S → List ℕ → Stretch S
+whole turn s block = stretch turn (length block) s block
+
+-- s₀ is the state at the start of the block, and out₀ the buffer
+pub record Going {S : Type 0} (turn : S → List ℕ → Turn S) (width most : ℕ) (Formed : S → Type 0) (s₀ : S) (block out₀ : List ℕ)
+    (s : S) (at : ℕ) (out : List ℕ) (w : ℕ) : Type 0 where
+  pub formed : Formed s
+  pub lines : ℕ
+  pub place : at ≡ lines * width
+  pub inside : at ≤ length block
+  pub few : w ≤ lines * most
+  pub bytes : List ℕ
+  pub size : length bytes ≡ w
+  pub puts : out ≡ over bytes out₀
+  pub left : whole turn s₀ block ≡ before bytes (whole turn s (drop at block))
+
+pub record Passing {S : Type 0} (turn : S → List ℕ → Turn S) (width : ℕ) (Formed : S → Type 0) (s₀ : S) (block : List ℕ) (s : S) (at : ℕ) : Type 0 where
+  pub formed : Formed s
+  pub lines : ℕ
+  pub place : at ≡ lines * width
+  pub inside : at ≤ length block
+  pub left : whole turn s₀ block ≡ whole turn s (drop at block)
+
+pub record Within (width size count end : ℕ) : Type 0 where
+  pub lines : ℕ
+  pub place : end ≡ lines * width
+  pub inside : end ≤ size
+  pub few : lines + count ≤ mostCycles

@@ -1,0 +1,2 @@
+-- Bytes as one number, low byte first.
+pub mod Words
