@@ -22,22 +22,18 @@ fn take(s: State, block: &[u8], more: bool, out: &mut [u8]) -> After {
     }
 }
 
-// One block. A short one is the last.
+// One block. A short one is the last, and one that cannot be read is empty.
 fn turn(s: State, block: &mut [u8], out: &mut [u8]) -> After {
-    match console::read_block(block) {
-        Fed::More(n) => take(s, console::first(n, block), true, out),
-        Fed::Last(n) => take(s, console::first(n, block), false, out),
-        Fed::Broken => After {
-            on: false,
-            state: s,
-        },
-    }
+    let fed = console::read_block(block);
+    let n = console::size(fed);
+    let more = console::more(fed);
+    take(s, console::first(n, block), more, out)
 }
 
-// Block after block: 1,954 blocks of 512 lines hold 1,000,001 lines, the last of which is refused.
+// Block after block: 489 blocks of 2,048 lines hold 1,000,001 lines, the last of which is refused.
 fn run(start: State, block: &mut [u8], out: &mut [u8]) {
     let mut state = start;
-    let mut turns: u32 = 1954;
+    let mut turns: u32 = 489;
     while turns > 0 {
         let t = turn(state, block, out);
         let next = t.state;
@@ -65,8 +61,8 @@ fn start(n: usize, block: &mut [u8], out: &mut [u8]) {
 }
 
 fn main() {
-    let mut block = [0u8; 8192];
-    let mut out = [0u8; 15903];
+    let mut block = [0u8; 32768];
+    let mut out = [0u8; 63519];
     match console::read_head(9, &mut block) {
         Fed::More(n) => start(n, &mut block, &mut out),
         Fed::Last(n) => start(n, &mut block, &mut out),

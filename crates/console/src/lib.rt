@@ -19,6 +19,24 @@ fn ended(n: usize) -> Fed {
     if got == 0 { Fed::Last(n) } else { Fed::Broken }
 }
 
+// The bytes that were read.
+pub fn size(f: Fed) -> usize {
+    match f {
+        Fed::More(n) => n,
+        Fed::Last(n) => n,
+        Fed::Broken => 0,
+    }
+}
+
+// Whether more may come.
+pub fn more(f: Fed) -> bool {
+    match f {
+        Fed::More(_) => true,
+        Fed::Last(_) => false,
+        Fed::Broken => false,
+    }
+}
+
 // Fills the buffer, so that a buffer of whole lines splits no line.
 pub fn read_block(buf: &mut [u8]) -> Fed {
     let n = io::read_full(STDIN_FILENO, buf);

@@ -60,10 +60,10 @@ fn turn(b: Bench, block: &mut [u8], out: &mut [u8]) -> After {
     }
 }
 
-// Block after block: 1,954 blocks of 512 lines hold 1,000,001 lines, the last of which is refused.
+// Block after block: 977 blocks of 1,024 lines hold 1,000,001 lines, the last of which is refused.
 fn run(start: After, block: &mut [u8], out: &mut [u8]) {
     let mut t = start;
-    let mut turns: u32 = 1954;
+    let mut turns: u32 = 977;
     while turns > 0 {
         if !t.on {
             return;
@@ -83,8 +83,8 @@ fn start(n: usize, block: &mut [u8], out: &mut [u8]) {
 }
 
 fn main() {
-    let mut block = [0u8; 15872];
-    let mut out = [0u8; 161595];
+    let mut block = [0u8; 31744];
+    let mut out = [0u8; 322875];
     match console::read_head(10, &mut block) {
         Fed::More(n) => start(n, &mut block, &mut out),
         Fed::Last(n) => start(n, &mut block, &mut out),
