@@ -3,7 +3,7 @@ use libc::STDIN_FILENO;
 use libc::STDOUT_FILENO;
 use streams::Flow;
 ghost use mathlib.Core.Path.{_≡_};
-ghost use lib.ListN.{length, take};
+ghost use lib.ListN.{take};
 
 // What a read came to: so many bytes and more may come, the last bytes of the input, or an error.
 pub enum Fed {

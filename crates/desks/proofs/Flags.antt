@@ -6,7 +6,6 @@
 --   small            == a number that stands for a flag is 0 or 1
 --   both, any, none  == `&`, `|` and `1 -`
 --   by               == a flag by another name
---   or-none-l, or-none-r == the parts of a `|` that is 0
 --   low              == a number that is 0 stands for a low flag
 --   high             == a number that stands for a flag, compared with 1
 --   low-number       == a number that is 0 or 1, compared with 0
@@ -16,8 +15,9 @@ use mathlib.Core.Path.{_≡_, refl, sym, _∙_, ap}
 use mathlib.Core.Bool.{Bool, true, false, not, _&&_, _||_, Bool·beq}
 use native.Mathlib.Omega.{arith}
 use lib.Dec.{eqb}
-use lib.Bits.{bitAnd, bitOr, or-add-and, and-le-l, and-le-r}
+use lib.Bits.{bitAnd, bitOr}
 use Rattle.rules.specs.Step.{flagOf}
+use Rattle.rules.proofs.Flags.{flag-most, flag-again}
 use Rattle.desks.specs.Desks.{Stands}
 
 pub binary : (P : ℕ → Type 0) → P 0 → P 1 → (x : ℕ) → x ≤ 1 → P x
@@ -31,12 +31,8 @@ as-flag x h = record { is = binary (λ x. x ≡ flagOf (eqb x 1)) refl refl x h 
 pub digit : (m : ℕ) → Stands (m % 2) (eqb (m % 2) 1)
 digit m = as-flag (m % 2) (omega arith)
 
-small-flag : (b : Bool) → flagOf b ≤ 1
-small-flag true = omega arith
-small-flag false = omega arith
-
 pub small : {x : ℕ} {b : Bool} → Stands x b → x ≤ 1
-small {x} {b} s = rw (s .is) (small-flag b)
+small {x} {b} s = rw (s .is) (flag-most b)
 
 and-flags : (a b : Bool) → bitAnd (flagOf a) (flagOf b) ≡ flagOf (a && b)
 and-flags true true = refl
@@ -66,12 +62,6 @@ none {x} {a} p = record { is = rw (p .is) (not-flag a) }
 pub by : {x : ℕ} {a b : Bool} → a ≡ b → Stands x a → Stands x b
 by e s = record { is = s .is ∙ ap flagOf e }
 
-pub or-none-l : (a b : ℕ) → bitOr a b ≡ 0 → a ≡ 0
-or-none-l a b e = omega (arith, or-add-and a b, and-le-r a b)
-
-pub or-none-r : (a b : ℕ) → bitOr a b ≡ 0 → b ≡ 0
-or-none-r a b e = omega (arith, or-add-and a b, and-le-l a b)
-
 low-flag : (b : Bool) → flagOf b ≡ 0 → b ≡ false
 low-flag true e = absurd (omega arith)
 low-flag false e = refl
@@ -86,12 +76,8 @@ flags-same false = binary (λ x. eqb x 0 ≡ Bool·beq (eqb x 1) false) refl ref
 pub same : {x y : ℕ} {b : Bool} → x ≤ 1 → Stands y b → eqb x y ≡ Bool·beq (eqb x 1) b
 same {x} {y} {b} h s = rw (s .is) (flags-same b x h)
 
-high-flag : (b : Bool) → eqb (flagOf b) 1 ≡ b
-high-flag true = refl
-high-flag false = refl
-
 pub high : {x : ℕ} {b : Bool} → Stands x b → eqb x 1 ≡ b
-high {x} {b} s = rw (s .is) (high-flag b)
+high {x} {b} s = rw (s .is) (flag-again b)
 
 pub low-number : (x : ℕ) → x ≤ 1 → eqb x 0 ≡ not (eqb x 1)
 low-number = binary (λ x. eqb x 0 ≡ not (eqb x 1)) refl refl

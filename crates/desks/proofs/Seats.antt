@@ -1,7 +1,6 @@
 -- The desk of a judge stands for it: its flag and its watch are those of their numbers.
 --
 --   number-named, number-small == the watch of a well-formed judge is that of its number, which is at most 4
---   flag-named, flag-small == a flag is that of its number, which is at most 1
 --   stands         == the desk of a judge stands for it, and is small
 use Prim.Native.Nat.{ℕ, _≤_}
 use mathlib.Core.Path.{_≡_, refl, ap}
@@ -11,6 +10,7 @@ use borrow.Author.Tests.{leb-true, ne-eqb}
 use lib.Dec.{eqb, leb}
 use Rattle.rules.specs.Step.{flagOf}
 use Rattle.rules.proofs.Choice.{and-left, and-right}
+use Rattle.rules.proofs.Flags.{flag-most, flag-again}
 use Rattle.rulebook.specs.declared.Watch.{Watch}
 use Rattle.rulebook.specs.declared.Watch.the-variants.{Nothing, OnG2, OnG3}
 use Rattle.rulebook.specs.declared.Judge.{Judge}
@@ -31,14 +31,6 @@ number-small : (o : Bool) (w : Watch) → watchOk o w ≡ true → watchNumber w
 number-small o Nothing e = omega arith
 number-small o OnG2 e = omega arith
 number-small o (OnG3 k) e = omega (arith, leb-true k 3 (and-right (o && leb 1 k) (leb k 3) e))
-
-flag-named : (b : Bool) → eqb (flagOf b) 1 ≡ b
-flag-named true = refl
-flag-named false = refl
-
-flag-small : (b : Bool) → flagOf b ≤ 1
-flag-small true = omega arith
-flag-small false = omega arith
 
 -- a judge with another flag and another watch
 seated : Judge → Bool → Watch → Judge
@@ -61,10 +53,10 @@ unfolding seated
 stands j s opened watch e g = (
   ap (λ (x : (b : Bool) × Watch). seated j (x .0) (x .1)) both,
   record {
-    opened = rw e (flag-small (j .opened));
+    opened = rw e (flag-most (j .opened));
     watch = rw g (number-small (j .opened) (j .watch) (s .watch));
   },
 )
   where
     both : _≡_ {A = (b : Bool) × Watch} (eqb opened 1, watchNamed watch) (j .opened, j .watch)
-    both = rw (e, g, flag-named (j .opened), number-named (j .opened) (j .watch) (s .watch))
+    both = rw (e, g, flag-again (j .opened), number-named (j .opened) (j .watch) (s .watch))

@@ -16,9 +16,9 @@
 --   Kept n d c l r k == the judge takes c, and charges nothing: r and k are the desk and the lost counts after it
 use Prim.Native.Nat.{ℕ, _+_, _^_, _≤_, _<_}
 use mathlib.Core.Path.{_≡_}
-use mathlib.Core.Bool.{Bool, true, false, _&&_, _||_, cond}
-use mathlib.Core.List.{List, [], map}
-use lib.Dec.{eqb, ltb, leb}
+use mathlib.Core.Bool.{Bool, false, _&&_, cond}
+use mathlib.Core.List.{List, []}
+use lib.Dec.{eqb, leb}
 use lib.ListN.{length, getD}
 use Rattle.rules.specs.declared.Cycle.{Cycle}
 use Rattle.rules.specs.Codes.{mostMasters, mostCycles}
@@ -28,8 +28,8 @@ use Rattle.rulebook.specs.declared.Watch.the-variants.{Nothing, OnG2, OnG3}
 use Rattle.rulebook.specs.declared.Judge.{Judge}
 use Rattle.rulebook.specs.declared.Verdict.the-variants.{Taken}
 use Rattle.rulebook.specs.Columns.{decided, ownersRequest, handover, someMaster}
-use Rattle.rulebook.specs.Rules.{rules, lockedIncr, waits, a3, a4, a5, a6, a7, a8, g1, g4, g5, g6, g7, g8, g9, g10}
-use Rattle.rulebook.specs.Charges.{longer, listFrom, openedAfter, watchAfter, onG2, onG3, judged, charges}
+use Rattle.rulebook.specs.Rules.{lockedIncr, waits, a3, a4, a5, a6, a7, a8, g1, g4, g5, g6, g7, g8, g9, g10}
+use Rattle.rulebook.specs.Charges.{longer, listFrom, openedAfter, watchAfter, onG2, onG3}
 use Rattle.rulebook.specs.Step.{judgeOf, chargedRules}
 use Rattle.keeping.specs.Lost.{countBy, reachesBy}
 use Rattle.desks.specs.declared.Desk.{Desk}

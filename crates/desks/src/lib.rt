@@ -8,7 +8,7 @@ use rulebook::Watch;
 use rules::Cycle;
 ghost use mathlib.Core.Path.{_≡_};
 ghost use mathlib.Core.Bool.{true, false};
-ghost use Prim.Native.Nat.{_≤_, _<_};
+ghost use Prim.Native.Nat.{_<_};
 ghost use Rattle.rules.specs.declared.Check.the-variants.{Good};
 ghost use Rattle.rules.specs.Codes.{mostCycles};
 ghost use Rattle.rules.specs.Valid.{cycleCheck};

@@ -1,7 +1,6 @@
--- Single bits, and tests joined by `|`: one number that is 0 only where all are.
+-- Single bits, and masks joined by `|`.
 --
 --   bits-times == the product of two bits is at most either of them
---   or-none    == a | b is 0 only where both are
 --   or-below   == a | b is below a bound only where both are
 --   within     == a mask that has no bit from n on is below 2 ^ n
 --   shifted    == a mask without its low bits fits
@@ -9,20 +8,14 @@ use Prim.Native.Nat.{ℕ, zero, suc, _*_, _/_, _^_, _≤_, _<_}
 use mathlib.Core.Path.{_≡_}
 use native.Mathlib.Omega.{arith}
 use native.Mathlib.Nat.{mod-lt, zero-mul, one-mul}
-use lib.Bits.{bitOr, or-add-and, and-le-l, and-le-r}
+use lib.Bits.{bitOr}
 use lib.Pow.{pow-pos, split, shr-le}
+use Rattle.rules.proofs.Flags.{or-least}
 
 pub bits-times : (a b : ℕ) → a ≤ 1 → b ≤ 1 → (a * b ≤ a) × (a * b ≤ b)
 bits-times zero b h k = (omega (arith, zero-mul b), omega (arith, zero-mul b))
 bits-times (suc zero) b h k = (omega (arith, one-mul b), omega (arith, one-mul b))
 bits-times (suc (suc a)) b h k = absurd (omega arith)
-
-or-least : (a b : ℕ) → (a ≤ bitOr a b) × (b ≤ bitOr a b)
-or-least a b =
-    (omega (arith, or-add-and a b, and-le-r a b), omega (arith, or-add-and a b, and-le-l a b))
-
-pub or-none : (a b : ℕ) → bitOr a b ≡ 0 → (a ≡ 0) × (b ≡ 0)
-or-none a b e = let h = or-least a b in (omega arith, omega arith)
 
 pub or-below : (m a b : ℕ) → bitOr a b < m → (a < m) × (b < m)
 or-below m a b w = let h = or-least a b in (omega arith, omega arith)

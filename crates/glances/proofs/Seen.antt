@@ -31,7 +31,8 @@ use Rattle.formats.proofs.Lines.{stimulus, trace, stimulus-answer, trace-answer
 use Rattle.glances.specs.declared.codes.Codes.{Codes}
 use Rattle.glances.specs.declared.codes.Flags.{Flags}
 use Rattle.glances.specs.Glances.{digitOf, GuessedCodes, CodesAt, GuessedFlags, FlagsAt}
-use Rattle.glances.proofs.Bits.{or-none, or-below, within}
+use Rattle.rules.proofs.Flags.{or-none}
+use Rattle.glances.proofs.Bits.{or-below, within}
 use Rattle.glances.proofs.Entries.{small-column, digit-column}
 use Rattle.glances.proofs.Valid.{masks-below, InputsWithin, OutputsWithin, inputs-pass, cycle-pass}
 

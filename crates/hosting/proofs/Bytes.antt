@@ -9,7 +9,7 @@ use mathlib.Core.Path.{_≡_, refl, sym, _∙_}
 use mathlib.Core.Bool.{Bool, true, false, _||_}
 use mathlib.Core.List.{List, _++_}
 use native.Mathlib.Omega.{arith}
-use borrow.Author.Tests.{leb-true, eqb-true}
+use borrow.Author.Tests.{leb-true, le-leb, eqb-true}
 use lib.Dec.{eqb, leb}
 use lib.ListN.{length, getD, take}
 use Rattle.rules.specs.declared.Phase.{Phase}
@@ -18,14 +18,11 @@ use Rattle.rules.specs.declared.State.{State}
 use Rattle.rules.specs.State.{phaseOk, WellFormed}
 use Rattle.rules.specs.Step.{flagOf}
 use Rattle.rules.proofs.Choice.{and-left, and-right}
+use Rattle.rules.proofs.Flags.{flag-most, flag-again}
 use Rattle.words.specs.Words.{lowFirst}
 use Rattle.words.proofs.Words.{Bytes, one-more, slots, slots-take, number-bytes, bytes-of-number}
 use Rattle.hosting.specs.declared.Lent.the-variants.{Known}
 use Rattle.hosting.specs.Bytes.{stateSize, phaseByte, leftByte, stateBytes, phaseOf, isState, stateIn, bytesState}
-
-flag-again : (f : Bool) → eqb (flagOf f) 1 ≡ f
-flag-again true = refl
-flag-again false = refl
 
 flag-byte : (f : ℕ) → leb f 1 ≡ true → flagOf (eqb f 1) ≡ f
 flag-byte zero e = refl
@@ -33,8 +30,7 @@ flag-byte (suc zero) e = refl
 flag-byte (suc (suc f)) e = absurd (omega (arith, leb-true (suc (suc f)) 1 e))
 
 flag-small : (f : Bool) → leb (flagOf f) 1 ≡ true
-flag-small true = refl
-flag-small false = refl
+flag-small f = le-leb (flagOf f) 1 (flag-most f)
 
 phase-again : (p : Phase) → phaseOf (phaseByte p) (leftByte p) ≡ p
 unfolding phaseOf
@@ -69,10 +65,6 @@ phase-left-small Done granted lock e = omega arith
 pub left-small : (s : State) → WellFormed s → leftByte (s .phase) < 256
 left-small s w = phase-left-small (s .phase) (s .granted) (s .hmastlock) (w .phase)
 
-flag-below : (f : Bool) → flagOf f < 256
-flag-below true = omega arith
-flag-below false = omega arith
-
 phase-below : (p : Phase) → phaseByte p < 256
 phase-below Fresh = omega arith
 phase-below (Fixed k) = omega arith
@@ -86,8 +78,8 @@ state-bytes s w =
     let g : s .g < 256 = omega (arith, w .grant) in
     let m : s .m < 256 = omega (arith, w .owner) in
     let spare : 0 < 256 = omega arith in
-    let lock = flag-below (s .hmastlock) in
-    let granted = flag-below (s .granted) in
+    let lock : flagOf (s .hmastlock) < 256 = omega (arith, flag-most (s .hmastlock)) in
+    let granted : flagOf (s .granted) < 256 = omega (arith, flag-most (s .granted)) in
     let rest = one-more (phase-below (s .phase)) (one-more (left-small s w) (one-more spare (number-bytes 4 (s .count)))) in
     (refl, one-more n (one-more g (one-more m (one-more lock (one-more granted rest)))))
 

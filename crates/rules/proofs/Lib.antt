@@ -1,5 +1,6 @@
 pub mod Choice
 pub mod Masks
+pub mod Flags
 pub mod Round
 pub mod Winner
 pub mod WellFormed

@@ -3,8 +3,8 @@
 --   outputs-fit    == no column of the outputs is too large
 --   valid-shown    == 4, 5, 6 and 7 do not apply to the cycle
 use Prim.Native.Nat.{_^_, _≤_, _<_}
-use mathlib.Core.Path.{_≡_, refl}
-use mathlib.Core.Bool.{Bool, true, false}
+use mathlib.Core.Path.{_≡_}
+use mathlib.Core.Bool.{Bool, false}
 use native.Mathlib.Omega.{arith}
 use borrow.Author.Tests.{le-ltb, lt-leb}
 use lib.Dec.{ltb}
@@ -16,11 +16,11 @@ use Rattle.rules.specs.Valid.{inputsTooLarge, inputsNotBuilt, inputsAbse
 use Rattle.rules.specs.State.{WellFormed}
 use Rattle.rules.specs.Phase.{seen}
 use Rattle.rules.specs.Step.{flagOf, shown}
+use Rattle.rules.proofs.Flags.{flag-most}
 use Rattle.rules.proofs.Total.{passed}
 
 small-flag : (b : Bool) → ltb 1 (flagOf b) ≡ false
-small-flag true = refl
-small-flag false = refl
+small-flag b = le-ltb 1 (flagOf b) (flag-most b)
 
 -- d is DECIDE
 module _ (s : State) (x : Inputs) (d : Bool) (sound : WellFormed s) where

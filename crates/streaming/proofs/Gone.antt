@@ -9,7 +9,7 @@
 --   joined          == a block whose first lines were taken so, and the rest line after line
 use Prim.Native.Nat.{ℕ, _+_, _-_, _≤_}
 use mathlib.Core.Path.{_≡_, refl, sym, _∙_}
-use mathlib.Core.Bool.{Bool, true, false}
+use mathlib.Core.Bool.{true}
 use mathlib.Core.List.{List, _++_}
 use native.Mathlib.Omega.{arith}
 use borrow.Author.Tests.{le-leb}
@@ -23,7 +23,8 @@ use Rattle.rules.specs.declared.Answer.the-variants.{Next}
 use Rattle.rules.specs.Valid.{inputsCheck}
 use Rattle.rules.specs.State.{mastersOk, WellFormed}
 use Rattle.rules.specs.Phase.{seen}
-use Rattle.rules.specs.Step.{flagOf, shown, stepOf}
+use Rattle.rules.specs.Step.{shown, stepOf}
+use Rattle.rules.proofs.Flags.{flag-most}
 use Rattle.rules.proofs.Taken.{decide, taken, next-count}
 use Rattle.formats.specs.declared.StimulusRead.the-variants.{Line}
 use Rattle.formats.specs.Lines.{stimulusLine, traceLine, readStimulusOf}
@@ -47,10 +48,6 @@ module _ (n : ℕ) (s : List ℕ) (x : Inputs) (e : readStimulusOf n s 0 ≡ Lin
 
 pub formed-masters : (s : State) → WellFormed s → mastersOk (s .n) ≡ true
 formed-masters s f = rw (le-leb 2 (s .n) (f .few), le-leb (s .n) 16 (f .many))
-
-flag-most : (b : Bool) → flagOf b ≤ 1
-flag-most true = omega arith
-flag-most false = omega arith
 
 module _ (s t : State) (x : Inputs) (o : Outputs) (e : stepOf s x ≡ Next t o) where
   pub driven : Driven (s .g) o

@@ -5,15 +5,15 @@
 --   began           == a loop over such lines stands so at its start
 --   one-passed      == one such line
 use Prim.Native.Nat.{ℕ, _+_, _*_, _/_, _-_, _≤_, _<_}
-use mathlib.Core.Path.{_≡_, refl, sym, ap, _∙_}
+use mathlib.Core.Path.{_≡_, refl, ap, _∙_}
 use mathlib.Core.List.{List, []}
 use native.Mathlib.Omega.{arith}
 use native.Mathlib.Nat.{mul-le-mul-right, le-div-iff-mul-le, div-mul-le-self, add-mul}
 use lib.ListN.{length, take, drop, length-drop}
 use lib.Seq.{drop-drop}
-use Rattle.streams.specs.Streams.{Turn, goes, stops, Stretch, before}
+use Rattle.streams.specs.Streams.{Turn, goes, before}
 use Rattle.streams.specs.Blocks.{roomFor}
-use Rattle.streaming.specs.Turns.{over, stateAfter}
+use Rattle.streaming.specs.Turns.{stateAfter}
 use Rattle.streaming.specs.Going.{whole, Going, Passing}
 use Rattle.streaming.proofs.Parts.{tail-is}
 use Rattle.streaming.proofs.Stretches.{Program, before-none, line-goes, same-size}

@@ -5,10 +5,9 @@
 --   passed          == what such a line comes to: nothing is written, and the judge goes on
 --   grown           == and its cycle is counted
 use Prim.Native.Nat.{ℕ, _+_}
-use mathlib.Core.Path.{_≡_, refl, sym, ap, _∙_}
+use mathlib.Core.Path.{_≡_, sym, ap, _∙_}
 use mathlib.Core.Bool.{true}
 use mathlib.Core.List.{List, []}
-use native.Mathlib.Omega.{arith}
 use native.Mathlib.Nat.{add-zero}
 use borrow.Author.Tests.{le-leb}
 use Rattle.rules.specs.declared.Check.the-variants.{Good}
@@ -17,7 +16,6 @@ use Rattle.rules.specs.Valid.{cycleCheck}
 use Rattle.rules.specs.State.{mastersOk}
 use Rattle.rulebook.specs.declared.Judge.{Judge}
 use Rattle.rulebook.specs.Charges.{judged}
-use Rattle.rulebook.specs.Step.{judgeOf, chargedRules}
 use Rattle.rulebook.specs.Kept.{Sound}
 use Rattle.rulebook.proofs.Answers.{taken, next-judge}
 use Rattle.formats.specs.declared.TraceRead.the-variants.{Line}
@@ -25,7 +23,7 @@ use Rattle.formats.specs.Lines.{readTraceOf}
 use Rattle.formats.proofs.Promises.{read-trace-line-writes}
 use Rattle.streams.specs.declared.Bench.{Bench}
 use Rattle.streams.specs.Streams.{goes}
-use Rattle.streams.specs.Judging.{breachLines, judgedTo, traced, judgeTurn}
+use Rattle.streams.specs.Judging.{breachLines, traced, judgeTurn}
 use Rattle.desks.specs.declared.Desk.{Desk}
 use Rattle.desks.specs.Desks.{judgeFrom, Kept}
 

@@ -1,8 +1,8 @@
 // The breach lines of one cycle, in the order of the rules.
 use rulebook::Rule;
 ghost use mathlib.Core.Path.{_≡_};
-ghost use mathlib.Core.Bool.{Bool, cond};
-ghost use mathlib.Core.List.{List, []};
+ghost use mathlib.Core.Bool.{cond};
+ghost use mathlib.Core.List.{[]};
 ghost use Prim.Native.Nat.{_+_, _≤_, _<_};
 ghost use lib.ListN.{length, getD};
 ghost use Rattle.rulebook.specs.declared.Rule.the-variants.{A1};

@@ -2,7 +2,7 @@
 use mathlib.Core.Path.{refl}
 use mathlib.Core.Bool.{false≢true, true≢false}
 use borrow.Author.Tests.{not-true, not-false}
-use Rattle.desks.proofs.Flags.{or-none-l, or-none-r}
+use Rattle.rules.proofs.Flags.{or-none}
 use Rattle.desks.proofs.Ready.{good-requests, good-plain, sound-ready, sound-counts}
 use Rattle.desks.proofs.Taking.{keeps}
 use borrow.Author.Needs.{needs}
@@ -39,7 +39,7 @@ keep-requires c κs = let s = c .before .before .before .before .before .before 
     let alone = c .before .before .before .before .before .before .judge-alone in (
       sound-ready _ _ _ (s .0) (s .1) (s .3),
       good-plain _ _ (s .0 .many) (s .4),
-      alone .ensures (or-none-r (compared .result) (alone .result) (c .before .before .before .before .before .if1 .left)),
+      alone .ensures (or-none (compared .result) (alone .result) (c .before .before .before .before .before .if1 .left) .1),
     )
 
 same-length-2 : tie.Need-same-length-2
@@ -52,8 +52,8 @@ returns-3 c = let s = c .before .before .before .before .before .before .before 
     let none = c .before .before .before .before .before .before .if1 .left in (
       λ e.
           keeps _ _ _ _ (s .0) (s .2)
-          (compared .ensures (or-none-l (compared .result) (alone .result) none))
-          (alone .ensures (or-none-r (compared .result) (alone .result) none))
+          (compared .ensures (or-none (compared .result) (alone .result) none .0))
+          (alone .ensures (or-none (compared .result) (alone .result) none .1))
           _
           (c .before .before .before .before .lose .ensures .0 (not-false _ (c .before .if2 .left)))
           (s .3)

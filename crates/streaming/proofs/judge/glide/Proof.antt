@@ -1,6 +1,6 @@
 -- `glide` meets its contract. The loop's invariant: the lines so far are taken and charge nothing, and there are no more to come than the
 -- run has room for.
-use Prim.Native.Nat.{_+_, _*_, _-_, _≤_, _<_}
+use Prim.Native.Nat.{_+_, _*_, _-_, _<_}
 use mathlib.Core.Path.{_≡_, ap}
 use native.Mathlib.Omega.{arith}
 use borrow.Author.Needs.{needs}
