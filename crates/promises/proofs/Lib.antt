@@ -10,5 +10,10 @@ pub mod Exact
 pub mod Unbroken
 pub mod Cleared
 pub mod Promises
+pub mod Assumed
+pub mod Lines
+pub mod Reported
+pub mod Traced
+pub mod Programs
 pub mod Wrong
 pub mod Examples

@@ -1,7 +1,10 @@
 -- Each of the four wrong arbiters breaks a promise: no run of theirs is needed but one of eleven ready cycles with two masters, in which
 -- master 1 requests from the start and nobody locks.
+--
+--   *-is-shut-out     == all the promises together
+--   *-leaves-the-page == FollowsThePage alone, of the three that take a cycle
 use Prim.Native.Nat.{ℕ}
-use mathlib.Core.Path.{_≡_, refl, sym, _∙_}
+use mathlib.Core.Path.{_≡_, refl, sym, _∙_, ap}
 use mathlib.Core.Bool.{Bool, true, false, false≢true}
 use mathlib.Core.List.{List, [], _∷_}
 use native.Mathlib.Omega.{arith}
@@ -9,6 +12,7 @@ use lib.ListN.{length}
 use Rattle.rules.specs.declared.Phase.the-variants.{Fresh}
 use Rattle.rules.specs.declared.State.{State}
 use Rattle.rules.specs.declared.Inputs.{Inputs}
+use Rattle.rules.specs.declared.Outputs.{Outputs}
 use Rattle.rules.specs.declared.Answer.{Answer}
 use Rattle.rules.specs.Codes.{burstOf}
 use Rattle.rules.specs.Masks.{high}
@@ -20,7 +24,7 @@ use Rattle.rules.specs.Step.{chosen, grantedAfter, ownerAfter, lockAfter, moved
 use Rattle.rules.proofs.Masks.{high-of-zero}
 use Rattle.promises.specs.Machines.{Machine, machineOf}
 use Rattle.promises.specs.Runs.{Run, stop, more, Reached, readies, Requests, Unlocked, handedBy}
-use Rattle.promises.specs.Promises.{Promised}
+use Rattle.promises.specs.Promises.{FollowsThePage, Promised}
 use Rattle.promises.specs.Wrong.{refusing, favouring, untouching, repeating}
 
 -- master 1 requests, ready, IDLE
@@ -94,3 +98,25 @@ repeating-run =
 
 pub repeating-is-shut-out : Promised repeating → ⊥
 repeating-is-shut-out = starved repeating (parked 11 false) repeating-run (unfold repeating-run handedBy in refl)
+
+-- The page alone shuts these three out, by one step. (Of a step that refuses it says nothing: there NeverRefuses does.)
+-- master 1 is chosen, and master 0 granted
+pub favouring-leaves-the-page : FollowsThePage favouring → ⊥
+unfolding favouring high burstOf inputsTooLarge inputsNotBuilt inputsAbsent inputsCheck next walk winner phaseOk wellFormed seen phaseAfter opensLater decides chosen grantedAfter ownerAfter lockAfter moved shown accepted stepOf
+favouring-leaves-the-page p =
+    let e = p (resetState 2) asking (parked 1 true) _ refl .1 in
+    let z : _≡_ {A = ℕ} 1 0 = cc in omega arith
+
+-- a cycle is counted
+pub untouching-leaves-the-page : FollowsThePage untouching → ⊥
+unfolding untouching high burstOf inputsTooLarge inputsNotBuilt inputsAbsent inputsCheck next walk winner phaseOk wellFormed seen phaseAfter opensLater decides chosen grantedAfter ownerAfter lockAfter moved shown accepted stepOf
+untouching-leaves-the-page p =
+    let e = p (resetState 2) asking (parked 0 false) _ refl .2 in
+    let z = ap (λ (s : State). s .count) e in omega arith
+
+-- a decision of a later cycle is not shown
+pub repeating-leaves-the-page : FollowsThePage repeating → ⊥
+unfolding repeating high burstOf inputsTooLarge inputsNotBuilt inputsAbsent inputsCheck next walk winner phaseOk wellFormed seen phaseAfter opensLater decides chosen grantedAfter ownerAfter lockAfter moved shown accepted stepOf
+repeating-leaves-the-page p =
+    let e = p (parked 2 false) asking (parked 3 false) _ refl .0 in
+    let z = ap (λ (o : Outputs). o .decide) e in omega arith
