@@ -23,7 +23,7 @@ fn fields<'a>(program: Program, all: &'a [usize]) -> &'a [usize] {
 
 /// Puts a fault of this kind into a line. Where the kind has no room (16 masters leave none absent, a
 /// stimulus has no HMASTER) the line stays as it is.
-fn spoil(rng: &mut Rng, program: Program, n: usize, line: &mut [u8], fault: usize) {
+pub fn spoil(rng: &mut Rng, program: Program, n: usize, line: &mut [u8], fault: usize) {
     let mask = rng.pick(fields(program, &MASKS));
     match fault {
         0 => line[HTRANS] = b'1',

@@ -4,7 +4,7 @@ use crate::case::{line_start, plain, sample, Case, Program, PROGRAMS};
 use crate::rng::Rng;
 
 /// Bytes that damage likes to leave.
-const ODD: &[u8] = b"\t\n\r \0\x0b\x7f\x80\xff019afgAFGxX,;-+";
+pub const ODD: &[u8] = b"\t\n\r \0\x0b\x7f\x80\xff019afgAFGxX,;-+";
 
 /// A short input for each program, damaged in one place.
 pub fn bytes(rng: &mut Rng, n: usize) -> Vec<Case> {

@@ -8,7 +8,7 @@ use crate::reference::judge::RULES;
 use crate::reference::lines::Inputs;
 use crate::rng::Rng;
 use crate::traffic::lawful;
-use crate::{codes, damage, headers, mutate, runs};
+use crate::{codes, damage, edges, headers, mutate, runs};
 
 /// A kind makes the cases of its turn; the turns go round the numbers of masters.
 pub struct Kind {
@@ -23,7 +23,7 @@ fn masters(turn: usize) -> usize {
     2 + turn % 15
 }
 
-pub const KINDS: [Kind; 17] = [
+pub const KINDS: [Kind; 21] = [
     Kind { name: "lawful traffic", make: lawful_runs, short: 120, long: 900 },
     Kind { name: "chaotic stimuli", make: chaotic_runs, short: 120, long: 900 },
     Kind { name: "random traces", make: random_traces, short: 90, long: 900 },
@@ -41,6 +41,10 @@ pub const KINDS: [Kind; 17] = [
     Kind { name: "something extra", make: something_extra, short: 30, long: 300 },
     Kind { name: "block sizes", make: block_sizes, short: 18, long: 90 },
     Kind { name: "fed in pieces", make: in_pieces, short: 30, long: 200 },
+    Kind { name: "spoiled at an edge", make: edges::spoiled, short: edges::SPOILED * 2, long: edges::SPOILED * 6 },
+    Kind { name: "cut at an edge", make: edges::cut, short: 80, long: 310 },
+    Kind { name: "breach after breach", make: edges::broken, short: 45, long: 180 },
+    Kind { name: "charged at an edge", make: edges::charged, short: edges::CHARGED * 2, long: edges::CHARGED * 6 },
 ];
 
 /// A stimulus for the arbiter, and the trace that comes of it for the judge.

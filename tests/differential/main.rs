@@ -8,6 +8,7 @@ mod case;
 mod chaos;
 mod codes;
 mod damage;
+mod edges;
 mod examples;
 mod headers;
 mod kinds;

@@ -2,7 +2,7 @@
 --
 --   writes          == the one law of all writers: the bytes and the rest as it was, or all as it was
 use Prim.Native.Nat.{ℕ, _≤_}
-use mathlib.Core.Path.{_≡_, refl, _∙_}
+use mathlib.Core.Path.{refl, _∙_}
 use mathlib.Core.List.{List}
 use native.Mathlib.Omega.{arith}
 use lib.ListN.{length, drop, length-append, length-drop}
@@ -14,21 +14,22 @@ use Rattle.formats.specs.declared.Written.the-variants.{Bytes, Refused}
 use Rattle.formats.specs.Lines.{fitted, left}
 use Rattle.formats.specs.Promises.{Writes}
 use Rattle.formats.proofs.Bytes.{below}
+use Rattle.formats.proofs.Report.{refusal-some}
 
 kept : (l buffer : List ℕ) (r : Refusal) → Writes l buffer (Refused r) (left (Refused r) l buffer)
 kept l buffer r =
     record {
       same-length = refl;
-      refused = λ q e. refl;
-      done = λ k e. let z : _≡_ {A = ℕ} 0 1 = cc in absurd (omega arith);
+      refused = λ h. refl;
+      done = λ e. absurd (omega (arith, refusal-some r, e));
     }
 
 done : (l buffer : List ℕ) → length l ≤ length buffer → Writes l buffer (Bytes (length l)) (left (Bytes (length l)) l buffer)
 done l buffer room =
     record {
       same-length = length-append l (drop (length l) buffer) ∙ rw (length-drop (length l) buffer) (omega arith);
-      refused = λ q e. let z : _≡_ {A = ℕ} 0 1 = cc in absurd (omega arith);
-      done = λ k e. let q : length l ≡ k = cc in rw (← q) (refl, refl);
+      refused = λ h. absurd (h refl);
+      done = λ e. (refl, refl);
     }
 
 pub writes : (k : Check) (l buffer : List ℕ)

@@ -9,6 +9,7 @@ pub mod Lines
 pub mod Headers
 pub mod Files
 pub mod Report
+pub mod Answers
 pub mod Ends
 pub mod Buffers
 pub mod Promises

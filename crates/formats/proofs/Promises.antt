@@ -21,13 +21,23 @@ use Rattle.formats.proofs.Hex.{top-no-digit, no-digit-top}
 use Rattle.formats.proofs.Bytes.{each-map}
 use Rattle.formats.proofs.Decimal.{in-decimal, number-before}
 use Rattle.formats.proofs.Limits.{valid-line, line-valid}
-use Rattle.formats.proofs.Reading.{whole-place, written-reads, read-writes, reads-end, unread-refused}
+use Rattle.formats.proofs.Reading.{whole-place, written-reads, read-writes, reads-end, end-range, end-read, unread-refused}
 use Rattle.formats.proofs.Lines.{stimulus, trace, stimulus-reading, trace-reading, stimulus-answer, trace-answer}
 use Rattle.formats.proofs.Headers.{header-reads, header-writes}
 use Rattle.formats.proofs.Files.{readFile, file-of, file-reads, file-writes, file-refused}
+use Rattle.formats.proofs.Answers.{header-number, stimulus-number, trace-number, written-number, stimulus-ended, trace-ended}
 use Rattle.formats.proofs.Ends.{bare, after, prefix-plain, name-plain, number-ends, number-then, fields-closed, write-ends}
 use Rattle.formats.proofs.Report.{refusal-bound, refusal-same, name-tells}
 use Rattle.formats.proofs.Buffers.{writes}
+
+pub refused-by-number : promise.RefusedByNumber
+refused-by-number =
+    record {
+      header-read = λ a r. header-number r a;
+      stimulus-read = λ a r. stimulus-number r a;
+      trace-read = λ a r. trace-number r a;
+      line-written = λ a r. written-number r a;
+    }
 
 pub line-lengths : promise.LineLengths
 line-lengths = record { stimulus-line = λ x. refl; trace-line = λ c. refl }
@@ -55,6 +65,12 @@ no-more-at-the-end =
     record {
       stimulus-line = λ n s range. stimulus-answer n s (length s) noMore (reads-end stimulus n s range);
       trace-line = λ n s range. trace-answer n s (length s) noMore (reads-end trace n s range);
+      stimulus-only = λ n s p e.
+          let f = sym (stimulus-reading n s p) ∙ stimulus-ended (readStimulusOf n s p) e in
+          (end-range stimulus n s p f, end-read stimulus n s p f);
+      trace-only = λ n s p e.
+          let f = sym (trace-reading n s p) ∙ trace-ended (readTraceOf n s p) e in
+          (end-range trace n s p f, end-read trace n s p f);
     }
 
 pub top-is-no-digit : promise.TopIsNoDigit

@@ -8,7 +8,7 @@
 --   reading F n s p == reading a line of the format
 --   written-reads   == a written line reads back
 --   read-writes     == a line that was read writes back as the bytes that stood there, and is valid
---   reads-end, end-read == there is no more line exactly at the end of the input
+--   reads-end, end-read, end-range == there is no more line exactly at the end of the input, once n is tested
 --   unread-refused  == a line with a character that is no hex digit is refused by 4
 use Prim.Native.Nat.{ℕ, _+_, _-_, _≤_, _<_}
 use mathlib.Core.Path.{_≡_, refl, sym, _∙_, ap}
@@ -186,6 +186,13 @@ module _ {A : Type 0} (F : Format A) (n : ℕ) where
   pub reads-end : (s : List ℕ) → InRange n → reading s (length s) ≡ noMore
   unfolding reading
   reads-end s range = rw (range-ok n range, place-end (F .fields) s)
+
+  pub end-range : (s : List ℕ) (p : ℕ) → reading s p ≡ noMore → InRange n
+  unfolding reading
+  end-range s p =
+      cond-elim (λ l. l ≡ noMore → InRange n) (mastersOk n)
+      (λ ok e. ok-range n ok)
+      (λ ok e. absurd (true≢false (ap isMore e)))
 
   pub end-read : (s : List ℕ) (p : ℕ) → reading s p ≡ noMore → p ≡ length s
   unfolding reading

@@ -66,7 +66,7 @@ refusalAt number =
     (number - 1)
     Masters
 
-refusal-known : (r : Refusal) → _≡_ {A = Refusal × Bool} (refusalAt (numberOf r), ltb (numberOf r) (10 ^ 10)) (r, true)
+refusal-known : (r : Refusal) → _≡_ {A = Refusal × (Bool × Bool)} (refusalAt (numberOf r), (ltb 0 (numberOf r), ltb (numberOf r) (10 ^ 10))) (r, (true, true))
 refusal-known Masters = refl
 refusal-known Header = refl
 refusal-known Shape = refl
@@ -79,8 +79,11 @@ refusal-known Short = refl
 refusal-known State = refl
 refusal-known Nobody = refl
 
+pub refusal-some : (r : Refusal) → 0 < numberOf r
+refusal-some r = ltb-true 0 (numberOf r) (ap (λ k. k .1 .0) (refusal-known r))
+
 pub refusal-bound : (r : Refusal) → numberOf r < 10 ^ 10
-refusal-bound r = ltb-true (numberOf r) (10 ^ 10) (ap (λ k. k .1) (refusal-known r))
+refusal-bound r = ltb-true (numberOf r) (10 ^ 10) (ap (λ k. k .1 .1) (refusal-known r))
 
 pub refusal-same : (q r : Refusal) → numberOf q ≡ numberOf r → q ≡ r
 refusal-same q r e = sym (ap (λ k. k .0) (refusal-known q)) ∙ ap refusalAt e ∙ ap (λ k. k .0) (refusal-known r)

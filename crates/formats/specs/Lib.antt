@@ -1,5 +1,6 @@
--- The lines of document 01: digits, columns, lines, headers, the report, and whole files; texts to compare with the page, and
--- what is promised of them all.
+-- The lines of document 01: the numbers of the answers, digits, columns, lines, headers, the report, and whole files; texts to
+-- compare with the page, and what is promised of them all.
+pub mod Answers
 pub mod Digits
 pub mod Columns
 pub mod Fields

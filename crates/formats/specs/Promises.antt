@@ -2,6 +2,7 @@
 -- the same name in lower case with hyphens.
 --
 -- The notions that they use:
+--   headerAnswer, stimulusAnswer, traceAnswer, writtenAnswer == the number of an answer (specs/Answers.antt)
 --   InRange n         == n is from 2 to 16
 --   Each P l          == every element of l has P
 --   ValidInputs n x, ValidCycle n c == none of the tests 4 to 7 applies
@@ -30,18 +31,22 @@ use Rattle.rulebook.specs.declared.Rule.{Rule}
 use Rattle.rulebook.specs.Rules.{rules}
 use Rattle.formats.specs.declared.Word.{Word}
 use Rattle.formats.specs.declared.Word.the-variants.{Stim, Trace}
+use Rattle.formats.specs.declared.HeaderRead.{HeaderRead}
 use Rattle.formats.specs.declared.HeaderRead.the-variants as head
+use Rattle.formats.specs.declared.StimulusRead.{StimulusRead}
 use Rattle.formats.specs.declared.StimulusRead.the-variants as stimulus
+use Rattle.formats.specs.declared.TraceRead.{TraceRead}
 use Rattle.formats.specs.declared.TraceRead.the-variants as trace
 use Rattle.formats.specs.declared.Written.{Written}
 use Rattle.formats.specs.declared.Written.the-variants as written
+use Rattle.formats.specs.Answers.{headerAnswer, stimulusAnswer, stimulusEnds, traceAnswer, traceEnds, writtenAnswer}
 use Rattle.formats.specs.Digits.{lf, hexChar, numberAt, decimal}
 use Rattle.formats.specs.Fields.{Field}
 use Rattle.formats.specs.Lines.{whole, place, stimulusFields, traceFields, stimulusLine, traceLine, readStimulusOf, readTraceOf, writeStimulusOf, stimulusWritten, writeTraceOf, traceWritten}
 use Rattle.formats.specs.Headers.{prefix, header, isDecimal, readHeaderOf, writeHeaderOf, headerWritten}
 use Rattle.formats.specs.Report.{ruleName, breachLine, endLine, refusedLine, writeOf, writtenOf}
 use Rattle.formats.specs.Files.{complete, refusedAt, stimulusFile, traceFile, readStimulusFile, readTraceFile}
-use Rattle.formats.specs.Texts.{bytes, headerAnswer, numbers, heads, names, printed}
+use Rattle.formats.specs.Texts.{bytes, numbers, heads, names, printed}
 
 pub record InRange (n : ℕ) : Type 0 where
   pub few : fewestMasters ≤ n
@@ -56,6 +61,13 @@ ValidInputs n x = inputsCheck n x ≡ Good
 
 abbrev pub ValidCycle : ℕ → Cycle → Type 0
 ValidCycle n c = cycleCheck n c ≡ Good
+
+-- "Every refusal returns its number", and no other answer has it.
+pub record RefusedByNumber : Type 0 where
+  pub header-read : (a : HeaderRead) (r : Refusal) → (headerAnswer a ≡ numberOf r) ↔ (a ≡ head.Refused r)
+  pub stimulus-read : (a : StimulusRead) (r : Refusal) → (stimulusAnswer a ≡ numberOf r) ↔ (a ≡ stimulus.Refused r)
+  pub trace-read : (a : TraceRead) (r : Refusal) → (traceAnswer a ≡ numberOf r) ↔ (a ≡ trace.Refused r)
+  pub line-written : (a : Written) (r : Refusal) → (writtenAnswer a ≡ numberOf r) ↔ (a ≡ written.Refused r)
 
 -- Lines.
 -- "A stimulus line has .. 16 bytes. A trace line adds ..: 31 bytes."
@@ -85,10 +97,12 @@ ReadTraceLineWrites =
     (n : ℕ) (s : List ℕ) (p : ℕ) (c : Cycle) (next : ℕ) → readTraceOf n s p ≡ trace.Line c next
     → InRange n × ValidCycle n c × (next ≡ p + 31) × (traceLine c ≡ take 31 (drop p s))
 
--- "Reading a line at a position equal to the input's length answers "no more lines", once n is tested."
+-- "Reading a line at a position equal to the input's length answers "no more lines", once n is tested." No other reading does.
 pub record NoMoreAtTheEnd : Type 0 where
   pub stimulus-line : (n : ℕ) (s : List ℕ) → InRange n → readStimulusOf n s (length s) ≡ stimulus.NoMore
   pub trace-line : (n : ℕ) (s : List ℕ) → InRange n → readTraceOf n s (length s) ≡ trace.NoMore
+  pub stimulus-only : (n : ℕ) (s : List ℕ) (p : ℕ) → stimulusEnds (readStimulusOf n s p) ≡ true → InRange n × (p ≡ length s)
+  pub trace-only : (n : ℕ) (s : List ℕ) (p : ℕ) → traceEnds (readTraceOf n s p) ≡ true → InRange n × (p ≡ length s)
 
 -- "hex is lower case"
 abbrev pub NoHex : ℕ → Type 0
@@ -221,10 +235,11 @@ pub record PrintedAsText : Type 0 where
 -- Lent buffers.
 pub record Writes (l buffer : List ℕ) (answer : Written) (after : List ℕ) : Type 0 where
   pub same-length : length after ≡ length buffer
-  pub refused : (r : Refusal) → answer ≡ written.Refused r → after ≡ buffer
-  pub done : (k : ℕ) → answer ≡ written.Bytes k → (k ≡ length l) × (after ≡ l ++ drop k buffer)
+  pub refused : (writtenAnswer answer ≡ 0 → ⊥) → after ≡ buffer
+  pub done : writtenAnswer answer ≡ 0 → (answer ≡ written.Bytes (length l)) × (after ≡ l ++ drop (length l) buffer)
 
--- "Every refusal returns its number ..; no lent byte changes." What is written stands at the start, and the rest is as it was.
+-- "Every refusal returns its number ..; no lent byte changes." So nothing has changed where the number is not 0; where it is 0, what
+-- is written stands at the start, and the rest is as it was.
 pub record BuffersKept : Type 0 where
   pub header-line : (w : Word) (n : ℕ) (buffer : List ℕ)
       → Writes (header w n) buffer (writeHeaderOf w n (length buffer)) (headerWritten w n buffer)

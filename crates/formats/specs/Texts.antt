@@ -11,21 +11,13 @@ use Prim.Native.String.{String, [] as empty, _∷_ as _followed_}
 use mathlib.Core.List.{List, [], _∷_}
 use Rattle.rules.specs.declared.Refusal.the-variants as refusal
 use Rattle.rules.specs.declared.Cycle.{Cycle}
-use Rattle.rules.specs.Refusals.{numberOf}
 use Rattle.rulebook.specs.declared.Rule.the-variants.{G6, G9}
-use Rattle.formats.specs.declared.HeaderRead.{HeaderRead}
-use Rattle.formats.specs.declared.HeaderRead.the-variants as head
 use Rattle.formats.specs.Lines.{stimulusLine, traceLine}
 use Rattle.formats.specs.Report.{breachLine, endLine, refusedLine}
 
 unfoldable pub bytes : String → List ℕ
 bytes empty = []
 bytes (c followed t) = code c ∷ bytes t
-
--- 0, or the number of the refusal
-abbrev pub headerAnswer : HeaderRead → ℕ
-headerAnswer (head.Header n next) = 0
-headerAnswer (head.Refused r) = numberOf r
 
 pub record Row : Type 0 where
   pub text : String

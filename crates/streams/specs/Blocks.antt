@@ -4,6 +4,7 @@
 --   ByLines w turn     == a turn looks at no more than the first w bytes of its input, goes on only after them, and stops where nothing is left
 --   inBlocks turn s blocks last == what is written block by block; the last one ends the input, and may be cut
 --   benchFormed b      == what the judging program keeps is well formed
+--   flowAnswer f       == the number that a call answers which takes one block: 0, or that of its refusal
 --   arbiterBlockOf, arbiterBlockLeft, judgeBlockOf, judgeBlockLeft == the answers of the calls that take one block, and the buffer afterwards
 use Prim.Native.Nat.{ℕ, _+_, _*_, _/_, _≤_}
 use mathlib.Core.Path.{_≡_}
@@ -11,10 +12,13 @@ use mathlib.Core.Bool.{Bool, _&&_, cond}
 use mathlib.Core.List.{List, [], _∷_, _++_}
 use lib.Dec.{ltb, leb}
 use lib.ListN.{length, drop}
+use Rattle.rules.specs.declared.Refusal.the-variants as refusal
 use Rattle.rules.specs.declared.State.{State}
+use Rattle.rules.specs.Refusals.{numberOf}
 use Rattle.rules.specs.State.{wellFormed}
 use Rattle.rulebook.specs.Rules.{rules}
 use Rattle.rulebook.specs.State.{wellFormed as judgeFormed}
+use Rattle.streams.specs.declared.Flow.{Flow}
 use Rattle.streams.specs.declared.Flow.the-variants.{GoesOn, Stopped, Short, Unformed}
 use Rattle.streams.specs.declared.ArbiterStretch.{ArbiterStretch}
 use Rattle.streams.specs.declared.Bench.{Bench}
@@ -66,6 +70,15 @@ bytesOf (done bytes s) = bytes
 abbrev pub leftBy : {S : Type 0} → ℕ → Bool → Stretch S → List ℕ → List ℕ
 leftBy room formed t buffer =
     cond (ltb (length buffer) room) buffer (cond formed (bytesOf t ++ drop (length (bytesOf t)) buffer) buffer)
+
+-- The number of a call. A program that stops by itself has taken its block: the refusal of a line stands in what it wrote.
+abbrev pub flowAnswer : Flow → ℕ
+flowAnswer GoesOn = 0
+flowAnswer Stopped = 0
+-- 9
+flowAnswer Short = numberOf refusal.Short
+-- 10
+flowAnswer Unformed = numberOf refusal.State
 
 -- a trace line has 31 bytes, and no refusal line is longer
 abbrev pub arbiterRoom : List ℕ → ℕ
