@@ -20,19 +20,15 @@ use Rattle.rules.specs.declared.Cycle.{Cycle}
 use Rattle.rules.proofs.Choice.{either, order, differ}
 use Rattle.rules.proofs.Masks.{high-below}
 use Rattle.rulebook.specs.Columns.{someBelow, someMaster}
-use Rattle.rulebook.specs.Charges.{longer, listFrom}
+use Rattle.rulebook.specs.Charges.{listFrom}
 use Rattle.rulebook.proofs.Counts.{list-at, list-length, some-none, none-below}
+use Rattle.rulebook.proofs.Rows.{longer-on}
 use Rattle.keeping.specs.Lost.{losesBy, countBy, reachesBy}
 use Rattle.desks.specs.Desks.{Counts, LostKept}
 
 some-at : (f : ℕ → Bool) (k i : ℕ) → i < k → f i ≡ true → someBelow k f ≡ true
 some-at f k i below e =
     either (someBelow k f) (λ p. p) (λ p. absurd (differ (f i) e (none-below k f p i below)))
-
--- a count that does not reach the limit grows, where it does
-grown : (n x : ℕ) (b : Bool) → (b && eqb (x + 1) n) ≡ false → cond b (x + 1) 0 ≡ longer n b x
-grown n x true e = rw e
-grown n x false e = refl
 
 pub none-next : (f : ℕ → Bool) (i : ℕ) → someBelow i f ≡ false → f i ≡ false → someBelow (i + 1) f ≡ false
 unfolding someBelow
@@ -72,7 +68,7 @@ module _ (n requests grants : ℕ) (l : List ℕ) (s : Counts n l) where
       let here : i < length k = omega (arith, a .size, s .many) in
       let same : getD k i 0 ≡ getD l i 0 = a .left i (omega arith) in
       let g =
-      grown n (getD l i 0) (losesBy requests grants i)
+      longer-on n (getD l i 0) (losesBy requests grants i)
       (none-below 16 (reachesBy n requests grants l) none i (omega (arith, s .many))) in
       let right : v ≡ countBy n requests grants l i = e ∙ rw same g in
       record {

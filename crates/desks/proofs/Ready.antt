@@ -1,11 +1,10 @@
 -- A cycle that is valid for n is a plain one, and a well-formed judge below the count limit has a desk that may count one cycle more.
 --
---   good-requests  == a valid cycle has no request of an absent master
---   good-plain     == and is plain
+--   good-plain     == a valid cycle is plain
 --   sound-ready, sound-counts == the desk and the lost counts of a well-formed judge
-use Prim.Native.Nat.{ℕ, _^_, _≤_, _<_}
+use Prim.Native.Nat.{ℕ, _≤_, _<_}
 use mathlib.Core.Path.{_≡_}
-use mathlib.Core.Bool.{false, _||_}
+use mathlib.Core.Bool.{false}
 use mathlib.Core.List.{List}
 use native.Mathlib.Omega.{arith}
 use borrow.Author.Tests.{ltb-false, leb-false}
@@ -13,26 +12,12 @@ use lib.Dec.{ltb}
 use Rattle.rules.specs.declared.Check.the-variants.{Good}
 use Rattle.rules.specs.declared.Cycle.{Cycle}
 use Rattle.rules.specs.Codes.{mostMasters, mostCycles}
-use Rattle.rules.specs.Valid.{inputsTooLarge, outputsTooLarge, inputsNotBuilt, inputsAbsent, outputsAbsent, ownerAbsent, cycleCheck}
+use Rattle.rules.specs.Valid.{inputsTooLarge, outputsTooLarge, cycleCheck}
 use Rattle.rules.proofs.Choice.{or-left, or-right}
-use Rattle.rules.proofs.Total.{Passed, passed}
+use Rattle.rules.proofs.Total.{cycle-passed}
 use Rattle.rulebook.specs.Kept.{Sound}
 use Rattle.desks.specs.declared.Desk.{Desk}
 use Rattle.desks.specs.Desks.{judgeFrom, Plain, Small, Ready, Counts}
-
-all-passed : (n : ℕ) (c : Cycle) → cycleCheck n c ≡ Good
-    → Passed
-    (inputsTooLarge (c .inputs) || outputsTooLarge (c .outputs))
-    (inputsNotBuilt (c .inputs))
-    (inputsAbsent n (c .inputs) || outputsAbsent n (c .outputs))
-    (ownerAbsent n (c .outputs))
-unfolding cycleCheck
-all-passed n c e = passed _ _ _ _ e
-
-pub good-requests : (n : ℕ) (c : Cycle) → cycleCheck n c ≡ Good → c .inputs .hbusreq < 2 ^ n
-unfolding inputsAbsent
-good-requests n c e =
-    leb-false _ _ (or-left _ _ (or-left (inputsAbsent n (c .inputs)) (outputsAbsent n (c .outputs)) (all-passed n c e .absent)))
 
 -- the columns whose size the test 4 bounds
 record Low (c : Cycle) : Type 0 where
@@ -50,7 +35,7 @@ low-of c e g = search (or-left, or-right) depth 10
 
 pub good-plain : (n : ℕ) (c : Cycle) → n ≤ mostMasters → cycleCheck n c ≡ Good → Plain c
 good-plain n c many e =
-    let p = all-passed n c e in
+    let p = cycle-passed n c e in
     let in-range = inputsTooLarge (c .inputs) in
     let out-range = outputsTooLarge (c .outputs) in
     let q = low-of c (or-left in-range out-range (p .value)) (or-right in-range out-range (p .value)) in

@@ -16,6 +16,7 @@ use Rattle.rulebook.specs.Columns.{handover}
 use Rattle.rulebook.specs.Traces.{opens}
 use Rattle.rulebook.specs.Rules.{lockedIncr, waits}
 use Rattle.rulebook.specs.Charges.{longer, onG2, onG3, openedAfter, watchAfter}
+use Rattle.rulebook.proofs.Rows.{longer-on}
 use Rattle.desks.specs.declared.Desk.{Desk}
 use Rattle.desks.specs.Desks.{watchNamed, judgeFrom, Stands, Names, Plain, AloneKept, Next}
 use Rattle.desks.proofs.Flags.{small, by, high, low-number}
@@ -36,17 +37,13 @@ on-g2 k h = by (number-g2 k h)
 pub on-g3 : {x : ℕ} (k : ℕ) → k ≤ 4 → Stands x (leb 2 k && leb k 3) → Stands x (onG3 (watchNamed k))
 on-g3 k h = by (number-g3 k h)
 
-run-by : (k r : ℕ) (f : Bool) → (f && eqb (r + 1) k) ≡ false → cond f (r + 1) 0 ≡ longer k f r
-run-by k r true e = rw e
-run-by k r false e = refl
-
 pub locked-kept : (d : Desk) (c : Cycle) (run : ℕ) → Stands run (lockedIncr c) → AloneKept d c
     → cond (eqb run 1) (d .locked + 1) 0 ≡ longer 1024 (lockedIncr c) (d .locked)
-locked-kept d c run s kept = rw (high s) (run-by 1024 (d .locked) (lockedIncr c) (kept .on-a1))
+locked-kept d c run s kept = rw (high s) (longer-on 1024 (d .locked) (lockedIncr c) (kept .on-a1))
 
 pub waited-kept : (d : Desk) (c : Cycle) → Plain c → AloneKept d c
     → cond (eqb (c .inputs .hready) 0) (d .waited + 1) 0 ≡ longer 17 (waits c) (d .waited)
-waited-kept d c plain kept = rw (low-number (c .inputs .hready) (plain .hready)) (run-by 17 (d .waited) (waits c) (kept .on-a2))
+waited-kept d c plain kept = rw (low-number (c .inputs .hready) (plain .hready)) (longer-on 17 (d .waited) (waits c) (kept .on-a2))
 
 opened-by : (a b o : Bool) → ((a || b) && not o) ≡ cond o false (a || b)
 opened-by true b true = refl

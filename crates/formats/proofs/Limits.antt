@@ -9,9 +9,9 @@
 --   stimulus-unfit, trace-unfit == what does not fit is refused by 4
 use Prim.Native.Nat.{ℕ, _≤_, _<_}
 use mathlib.Core.Path.{_≡_, refl}
-use mathlib.Core.Bool.{true, false, _||_, true≢false}
+use mathlib.Core.Bool.{true, false, true≢false}
 use native.Mathlib.Omega.{arith}
-use borrow.Author.Tests.{leb-true, leb-false, ltb-false, le-leb, lt-leb, ne-eqb}
+use borrow.Author.Tests.{leb-true, leb-false, ltb-false, lt-leb, ne-eqb}
 use lib.Dec.{leb}
 use Rattle.rules.specs.declared.Refusal.the-variants as refusal
 use Rattle.rules.specs.declared.Check.{Check}
@@ -21,9 +21,10 @@ use Rattle.rules.specs.declared.Outputs.{Outputs}
 use Rattle.rules.specs.declared.Cycle.{Cycle}
 use Rattle.rules.specs.Codes.{mostMasters, burstOf, noCode}
 use Rattle.rules.specs.State.{mastersOk}
-use Rattle.rules.specs.Valid.{inputsTooLarge, outputsTooLarge, inputsNotBuilt, inputsAbsent, outputsAbsent, ownerAbsent, inputsCheck, cycleCheck}
-use Rattle.rules.proofs.Choice.{either, order, and-left, and-right, and-both, or-left, or-right}
-use Rattle.rules.proofs.Total.{Passed, passed}
+use Rattle.rules.specs.Valid.{inputsTooLarge, outputsTooLarge, inputsNotBuilt, inputsAbsent, inputsCheck, cycleCheck}
+use Rattle.rules.proofs.Choice.{either, order, and-left, and-right, or-left, or-right}
+use Rattle.rules.proofs.WellFormed.{masters-ok}
+use Rattle.rules.proofs.Total.{passed, cycle-passed}
 use Rattle.formats.specs.Columns.{inputValues, cycleValues}
 use Rattle.formats.specs.Lines.{stimulusFields, traceFields, lineCheck}
 use Rattle.formats.specs.Promises.{InRange}
@@ -31,7 +32,7 @@ use Rattle.formats.proofs.Bytes.{below}
 use Rattle.formats.proofs.Fields.{Fits}
 
 pub range-ok : (n : ℕ) → InRange n → mastersOk n ≡ true
-range-ok n r = and-both (le-leb 2 n (r .few)) (le-leb n 16 (r .many))
+range-ok n r = masters-ok n (r .few) (r .many)
 
 pub ok-range : (n : ℕ) → mastersOk n ≡ true → InRange n
 ok-range n e =
@@ -82,12 +83,6 @@ pub valid-stimulus-fits : (n : ℕ) (x : Inputs) → inputsCheck n x ≡ Good �
 unfolding inputsCheck
 valid-stimulus-fits n x e =
     stimulus-fits x (inputs-small x (passed (inputsTooLarge x) (inputsNotBuilt x) (inputsAbsent n x) false e .value))
-
-cycle-passed : (n : ℕ) (c : Cycle) → cycleCheck n c ≡ Good
-    → Passed (inputsTooLarge (c .inputs) || outputsTooLarge (c .outputs)) (inputsNotBuilt (c .inputs))
-    (inputsAbsent n (c .inputs) || outputsAbsent n (c .outputs)) (ownerAbsent n (c .outputs))
-unfolding cycleCheck
-cycle-passed n c e = passed _ _ _ _ e
 
 owner-below : (n : ℕ) (c : Cycle) → cycleCheck n c ≡ Good → c .outputs .hmaster < n
 owner-below n c e = leb-false n (c .outputs .hmaster) (cycle-passed n c e .owner)

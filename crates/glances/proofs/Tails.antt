@@ -10,9 +10,9 @@ use mathlib.Core.Path.{_≡_, refl, sym, ap, _∙_}
 use mathlib.Core.List.{List, [], _∷_, _++_, append-nil}
 use native.Mathlib.Omega.{arith}
 use native.Mathlib.Nat.{add-zero}
-use lib.ListN.{length, take, drop, set, length-drop, drop-of-length-le}
+use lib.ListN.{length, take, drop, set}
 use lib.Seq.{sets, length-sets, set-set}
-use Rattle.words.proofs.Words.{part-rest}
+use Rattle.words.proofs.Words.{part-rest, nothing-after}
 use Rattle.fields.proofs.Stores.{sets-append, then-sets}
 
 abbrev pub rest : ℕ → List ℕ → List ℕ
@@ -29,9 +29,6 @@ sets-rest : (k : ℕ) (l vs : List ℕ) → k ≤ length l → take k l ++ sets 
 sets-rest zero l vs h = refl
 sets-rest (suc k) [] vs h = absurd (omega arith)
 sets-rest (suc k) (x ∷ l) vs h = ap (λ (m : List ℕ). x ∷ m) (sets-rest k l vs (omega arith)) ∙ sym (sets-later x l k vs)
-
-nothing-after : (k : ℕ) (b : List ℕ) → drop (length b - k) (drop k b) ≡ []
-nothing-after k b = drop-of-length-le (drop k b) {i = length b - k} (simp length-drop (omega arith))
 
 pub tail-put : (k : ℕ) (b t vs : List ℕ) → k ≤ length b → t ≡ sets (rest k b) 0 vs → withTail k b t ≡ sets b k vs
 tail-put k b t vs h e = rw (nothing-after k b, append-nil, e, part-rest k b) (sets-rest k b vs h)

@@ -14,7 +14,7 @@ use mathlib.Core.Path.{_≡_, refl, sym, _∙_}
 use mathlib.Core.Bool.{true}
 use mathlib.Core.List.{List, _++_}
 use native.Mathlib.Omega.{arith}
-use borrow.Author.Tests.{le-ltb, le-leb}
+use borrow.Author.Tests.{le-ltb}
 use lib.ListN.{length, drop}
 use Rattle.rules.specs.declared.Refusal.the-variants.{State as StateRefusal}
 use Rattle.rules.specs.declared.Check.the-variants.{Good}
@@ -29,8 +29,7 @@ use Rattle.rules.specs.Refusals.{answerOf}
 use Rattle.rules.specs.Valid.{cycleCheck}
 use Rattle.rules.specs.State.{mastersOk, resetState, WellFormed}
 use Rattle.rules.specs.Step.{stepOf}
-use Rattle.rules.proofs.Choice.{and-both}
-use Rattle.rules.proofs.WellFormed.{reset-taken, reset-sound}
+use Rattle.rules.proofs.WellFormed.{masters-ok, reset-taken, reset-sound}
 use Rattle.rules.proofs.Taken.{taken, decide, next-n}
 use Rattle.rules.proofs.Shown.{valid-shown}
 use Rattle.rules.proofs.Kept.{kept}
@@ -100,7 +99,7 @@ follows (Known s) x t c e = go (stepOf s x) refl
           stepped = p;
           driven = refl;
           sound = w;
-          masters = and-both (le-leb 2 (u .n) (w .few)) (le-leb (u .n) 16 (w .many));
+          masters = masters-ok (u .n) (w .few) (w .many);
           valid = rw (next-n s x u o k) (rw (k .shows) (valid-shown s x (decide s x) (k .sound) (k .good)));
         })
     go (answer.Refused r u) p = let q = rw p at e in let z : _≡_ {A = ℕ} 0 1 = cc in absurd (omega arith)

@@ -3,31 +3,32 @@
 --   fits-of  == a cycle that is valid for n is small enough
 --   low-of   == lost counts that pass their test are small
 --   ready-of == the judge may take the cycle
-use Prim.Native.Nat.{ℕ, zero, suc, _≤_, _<_}
-use mathlib.Core.Path.{_≡_, refl}
-use mathlib.Core.Bool.{Bool, true, false, not, _&&_, _||_, false≢true}
+use Prim.Native.Nat.{ℕ, _≤_, _<_}
+use mathlib.Core.Path.{_≡_}
+use mathlib.Core.Bool.{true, false, not, _&&_}
 use mathlib.Core.List.{List}
 use native.Mathlib.Omega.{arith}
 use borrow.Author.Tests.{ltb-true, ltb-false, leb-true, leb-false, not-true}
 use lib.Dec.{eqb, ltb, leb}
 use lib.ListN.{getD}
-use Rattle.rules.specs.declared.Check.{Check}
-use Rattle.rules.specs.declared.Check.the-variants.{Good, Bad}
+use Rattle.rules.specs.declared.Check.the-variants.{Good}
 use Rattle.rules.specs.declared.Cycle.{Cycle}
 use Rattle.rules.specs.Codes.{mostCycles}
-use Rattle.rules.specs.Valid.{inputsTooLarge, outputsTooLarge, inputsNotBuilt, inputsAbsent, outputsAbsent, ownerAbsent, cycleCheck}
-use Rattle.rules.proofs.Choice.{order, and-left, and-right, or-left, or-right}
-use Rattle.rules.proofs.Total.{passed}
+use Rattle.rules.specs.Valid.{inputsTooLarge, outputsTooLarge, cycleCheck}
+use Rattle.rules.proofs.Choice.{and-left, and-right, or-left, or-right}
+use Rattle.rules.proofs.Total.{cycle-passed}
 use Rattle.rulebook.specs.declared.Judge.{Judge}
 use Rattle.rulebook.specs.Columns.{someBelow}
 use Rattle.rulebook.specs.State.{isGood, wrongCount, countsOk, wellFormed}
+use Rattle.rulebook.proofs.Counts.{none-below}
+use Rattle.rulebook.proofs.WellFormed.{good-is}
 use Rattle.keeping.specs.Room.{Low}
 use Rattle.charging.specs.Ready.{Fits, Ready}
 
 pub fits-of : (n : ℕ) (c : Cycle) → n ≤ 16 → cycleCheck n c ≡ Good → Fits c
-unfolding cycleCheck inputsTooLarge outputsTooLarge
+unfolding inputsTooLarge outputsTooLarge
 fits-of n c few e =
-    let p = passed (inputsTooLarge (c .inputs) || outputsTooLarge (c .outputs)) (inputsNotBuilt (c .inputs)) (inputsAbsent n (c .inputs) || outputsAbsent n (c .outputs)) (ownerAbsent n (c .outputs)) e in
+    let p = cycle-passed n c e in
     let v = p .value in
     let lock : ltb 65535 (c .inputs .hlock) ≡ false = search (or-left, or-right) depth 9 in
     let grant : ltb 65535 (c .outputs .hgrant) ≡ false = search (or-left, or-right) depth 9 in
@@ -35,14 +36,6 @@ fits-of n c few e =
     let g = ltb-false 65535 (c .outputs .hgrant) grant in
     let o = leb-false n (c .outputs .hmaster) (p .owner) in
     record { hlock = omega arith; hgrant = omega arith; hmaster = omega arith }
-
-none-below : (k : ℕ) (f : ℕ → Bool) → someBelow k f ≡ false → (i : ℕ) → i < k → f i ≡ false
-unfolding someBelow
-none-below zero f e i h = absurd (omega arith)
-none-below (suc k) f e i h =
-    order (suc i) k
-    (λ p. none-below k f (or-left (someBelow k f) (f k) e) i p)
-    (λ p. (let q : i ≡ k = omega arith in rw q (or-right (someBelow k f) (f k) e)))
 
 pub low-of : (n : ℕ) (l : List ℕ) → n ≤ 16 → countsOk n l ≡ true → Low l
 unfolding countsOk
@@ -53,10 +46,6 @@ low-of n l few e =
           let b = leb-false n (getD l i 0) (or-left (leb n (getD l i 0)) (leb n i && not (eqb (getD l i 0) 0)) w) in
           omega arith;
     }
-
-good-is : (c : Check) → isGood c ≡ true → c ≡ Good
-good-is Good e = refl
-good-is (Bad r) e = absurd (false≢true e)
 
 pub ready-of : (j : Judge) (c : Cycle) → wellFormed j ≡ true → j .count < mostCycles → cycleCheck (j .n) c ≡ Good → Ready j c
 unfolding wellFormed

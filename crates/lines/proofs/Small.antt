@@ -15,9 +15,9 @@ use Rattle.rules.specs.declared.Outputs.{Outputs}
 use Rattle.rules.specs.declared.Cycle.{Cycle}
 use Rattle.rules.specs.State.{mastersOk}
 use Rattle.rules.specs.Codes.{burstOf, noCode}
-use Rattle.rules.specs.Valid.{inputsTooLarge, outputsTooLarge, inputsNotBuilt, inputsAbsent, outputsAbsent, ownerAbsent, inputsCheck, cycleCheck}
+use Rattle.rules.specs.Valid.{inputsTooLarge, outputsTooLarge, inputsNotBuilt, inputsAbsent, inputsCheck, cycleCheck}
 use Rattle.rules.proofs.Choice.{or-left, or-right, order, differ}
-use Rattle.rules.proofs.Total.{passed}
+use Rattle.rules.proofs.Total.{passed, cycle-passed}
 use Rattle.formats.specs.Lines.{forMasters}
 use Rattle.lines.specs.Small.{SmallInputs, SmallOutputs}
 
@@ -73,10 +73,8 @@ small-inputs n x e =
     (passed (inputsTooLarge x) (inputsNotBuilt x) (inputsAbsent n x) false (past-masters n (inputsCheck n x) e) .value)
 
 pub small-cycle : (n : ℕ) (c : Cycle) → forMasters n (cycleCheck n c) ≡ Good → SmallInputs (c .inputs) × SmallOutputs (c .outputs)
-unfolding cycleCheck
 small-cycle n c e =
     let x = inputsTooLarge (c .inputs) in
     let o = outputsTooLarge (c .outputs) in
-    let v =
-    passed (x || o) (inputsNotBuilt (c .inputs)) (inputsAbsent n (c .inputs) || outputsAbsent n (c .outputs)) (ownerAbsent n (c .outputs)) (past-masters n (cycleCheck n c) e) .value in
+    let v = cycle-passed n c (past-masters n (cycleCheck n c) e) .value in
     (of-inputs (c .inputs) (or-left x o v), of-outputs (c .outputs) (or-right x o v))

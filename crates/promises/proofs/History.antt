@@ -5,7 +5,7 @@
 --   shown-*        == what the columns of such a cycle say
 use Prim.Native.Nat.{ℕ}
 use mathlib.Core.Path.{_≡_, refl, sym, _∙_, ap, subst}
-use mathlib.Core.Bool.{Bool, true, false, _&&_}
+use mathlib.Core.Bool.{Bool, _&&_}
 use mathlib.Core.List.{List, [], _∷_}
 use native.Mathlib.Omega.{arith}
 use lib.Dec.{eqb}
@@ -18,6 +18,7 @@ use Rattle.rules.specs.Codes.{ready}
 use Rattle.rules.specs.Masks.{high, single}
 use Rattle.rules.specs.Phase.{seen, handover}
 use Rattle.rules.specs.Step.{flagOf, shown}
+use Rattle.rules.proofs.Flags.{flag-again}
 use Rattle.rules.proofs.Masks.{high-single}
 use Rattle.rules.proofs.WellFormed.{Began, reset-sound}
 use Rattle.rules.proofs.Taken.{Taken, decide, next-n, next-count}
@@ -43,26 +44,22 @@ pub history-count : {n : ℕ} {s : State} {h : List Cycle} → History n s h →
 history-count (none b) = ap (λ (u : State). u .count) (b .is)
 history-count (then {s = s} {s' = s'} x {o = o} d k) = let c = history-count d in omega (arith, next-count s x s' o k)
 
-pub flag-is : (b : Bool) → eqb (flagOf b) 1 ≡ b
-flag-is true = refl
-flag-is false = refl
-
 module _ (s : State) (x : Inputs) where
   pub shown-decided : decided (cycleOf s x) ≡ decide s x
   unfolding shown
-  shown-decided = flag-is (decide s x)
+  shown-decided = flag-again (decide s x)
 
   pub shown-granted : granted (cycleOf s x) ≡ s .granted
   unfolding shown
-  shown-granted = flag-is (s .granted)
+  shown-granted = flag-again (s .granted)
 
   pub shown-locked : locked (cycleOf s x) ≡ s .hmastlock
   unfolding shown
-  shown-locked = flag-is (s .hmastlock)
+  shown-locked = flag-again (s .hmastlock)
 
   pub shown-busreq : eqb (cycleOf s x .outputs .busreq) 1 ≡ high (x .hbusreq) (s .m)
   unfolding shown seen
-  shown-busreq = flag-is (high (x .hbusreq) (s .m))
+  shown-busreq = flag-again (high (x .hbusreq) (s .m))
 
   pub shown-request : ownersRequest (cycleOf s x) ≡ high (x .hbusreq) (s .m)
   unfolding ownersRequest shown

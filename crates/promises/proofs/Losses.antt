@@ -21,6 +21,7 @@ use Rattle.rules.specs.State.{resetState}
 use Rattle.rules.specs.Phase.{seen, protected, phaseOpened, phaseAfter, settled, opensLater, decides}
 use Rattle.rules.specs.Step.{shown}
 use Rattle.rules.proofs.Choice.{order}
+use Rattle.rules.proofs.Flags.{flag-again}
 use Rattle.rules.proofs.Masks.{high-below}
 use Rattle.rules.proofs.Winner.{turns-below}
 use Rattle.rules.proofs.WellFormed.{Began}
@@ -29,10 +30,10 @@ use Rattle.rules.proofs.Total.{good-masks}
 use Rattle.rulebook.specs.Columns.{decided}
 use Rattle.rulebook.specs.Traces.{comparing, completes}
 use Rattle.rulebook.specs.Rules.{loses, lostInARow, limit, g11, g12}
+use Rattle.rulebook.proofs.Counts.{some-none}
 use Rattle.rules.specs.declared.Cycle.{Cycle}
 use Rattle.promises.proofs.Served.{turnsOf, loss-nearer, turns-kept}
-use Rattle.promises.proofs.Pairs.{some-none}
-use Rattle.promises.proofs.History.{cycleOf, History, none, then, history-sound, flag-is, shown-decided, shown-grant}
+use Rattle.promises.proofs.History.{cycleOf, History, none, then, history-sound, shown-decided, shown-grant}
 
 shown-loses : (i : ℕ) (q s : State) (y x : Inputs) → loses i (cycleOf q y) (cycleOf s x) ≡ (high (y .hbusreq) i && not (eqb (s .g) i))
 shown-loses i q s y x = rw (shown-grant s x i)
@@ -112,4 +113,4 @@ began-decides n x =
 
 pub no-g12 : (n : ℕ) (s : State) → Began n s → (x : Inputs) → g12 (cycleOf s x) ≡ false
 unfolding shown
-no-g12 n s b x = rw (b .is, flag-is (decide (resetState n) x)) (began-decides n x)
+no-g12 n s b x = rw (b .is, flag-again (decide (resetState n) x)) (began-decides n x)

@@ -22,13 +22,9 @@ use Rattle.rules.proofs.Taken.{Taken, decide, next-g, next-m, next-lock}
 use Rattle.rules.proofs.Decision.{decides-low, chosen-zero}
 use Rattle.rulebook.specs.Columns.{granted, request, lock, grant, someBelow, someMaster}
 use Rattle.rulebook.specs.Rules.{differ as differs, g1, g4, g5, g6, g7, g8, g9, g10}
+use Rattle.rulebook.proofs.Counts.{some-none}
 use Rattle.promises.proofs.Served.{falls-when-ready, grant-kept, grant-won, granted-raised, granted-falls}
 use Rattle.promises.proofs.History.{cycleOf, shown-decided, shown-granted, shown-locked, shown-busreq, shown-request, shown-hgrant, shown-hmaster, shown-hmastlock, shown-grant, shown-handover}
-
-pub some-none : (k : ℕ) (f : ℕ → Bool) → ((i : ℕ) → i < k → f i ≡ false) → someBelow k f ≡ false
-unfolding someBelow
-some-none zero f h = refl
-some-none (suc k) f h = rw (h k (omega arith), some-none k f (λ i l. h i (omega arith)))
 
 pub some-single : (k g : ℕ) (f : ℕ → Bool) → g < k → someBelow k (λ i. f i && eqb g i) ≡ f g
 unfolding someBelow

@@ -9,7 +9,7 @@ use Prim.Native.Nat.{ℕ, _≤_, _<_}
 use mathlib.Core.Path.{_≡_, refl, ap}
 use mathlib.Core.Bool.{Bool, true, false}
 use native.Mathlib.Omega.{arith}
-use borrow.Author.Tests.{leb-true, leb-false, le-leb, lt-leb}
+use borrow.Author.Tests.{leb-true, leb-false, lt-leb}
 use lib.Dec.{leb}
 use Rattle.rules.specs.declared.Refusal.{Refusal}
 use Rattle.rules.specs.declared.Refusal.the-variants as refusal
@@ -20,6 +20,7 @@ use Rattle.rules.specs.Codes.{fewestMasters, mostMasters, mostCycles}
 use Rattle.rules.specs.Valid.{cycleCheck}
 use Rattle.rules.specs.State.{mastersOk}
 use Rattle.rules.proofs.Choice.{either, and-left, and-right}
+use Rattle.rules.proofs.WellFormed.{masters-ok}
 use Rattle.rulebook.specs.declared.Judge.{Judge}
 use Rattle.rulebook.specs.declared.Judgement.{Judgement}
 use Rattle.rulebook.specs.declared.Verdict.the-variants.{Taken, Refused}
@@ -94,4 +95,4 @@ begun n e =
 
 pub begins : (n : ℕ) → fewestMasters ≤ n → n ≤ mostMasters → startOf n .verdict ≡ Taken
 unfolding startOf
-begins n few many = rw (le-leb 2 n few, le-leb n 16 many)
+begins n few many = rw (masters-ok n few many)

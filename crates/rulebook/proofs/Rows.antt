@@ -3,6 +3,7 @@
 --   longer-row      == one more cycle makes the kept length that of the longer row
 --   completes-row   == the kept length reaches k where the row completes k
 --   longer-below    == a kept length stays below k
+--   longer-on       == a kept length that does not reach k grows, or starts again
 use Prim.Native.Nat.{ℕ, _+_, _%_, _<_}
 use mathlib.Core.Path.{_≡_, refl, sym, _∙_, ap}
 use mathlib.Core.Bool.{Bool, true, false, _&&_, cond}
@@ -47,3 +48,7 @@ pub longer-below : (k r : ℕ) (f : Bool) → r < k → longer k f r < k
 longer-below k r false h = omega arith
 longer-below k r true h =
     cond-elim (λ (z : ℕ). z < k) (eqb (r + 1) k) (λ e. omega arith) (λ e. omega (arith, eqb-false (r + 1) k e))
+
+pub longer-on : (k r : ℕ) (f : Bool) → (f && eqb (r + 1) k) ≡ false → cond f (r + 1) 0 ≡ longer k f r
+longer-on k r true e = rw e
+longer-on k r false e = refl

@@ -7,7 +7,7 @@ use Prim.Native.Nat.{ℕ, _-_, _^_, _≤_, _<_}
 use mathlib.Core.Path.{_≡_, refl, _∙_}
 use mathlib.Core.Bool.{Bool, true, false, _||_, cond}
 use native.Mathlib.Omega.{arith}
-use borrow.Author.Tests.{leb-true, leb-false, eqb-false, le-leb, lt-leb}
+use borrow.Author.Tests.{leb-true, eqb-false, le-leb, lt-leb}
 use lib.Dec.{eqb, leb}
 use lib.ListN.{getD, getD-replicate}
 use lib.Pow.{pow-pos}
@@ -16,11 +16,10 @@ use Rattle.rules.specs.declared.Burst.the-variants as burst
 use Rattle.rules.specs.declared.Check.the-variants.{Good}
 use Rattle.rules.specs.declared.Cycle.{Cycle}
 use Rattle.rules.specs.Codes.{burstOf, mostMasters, mostCycles, longestBurst}
-use Rattle.rules.specs.Masks.{namesAbsent}
-use Rattle.rules.specs.Valid.{inputsTooLarge, outputsTooLarge, inputsNotBuilt, inputsAbsent, outputsAbsent, ownerAbsent, cycleCheck}
-use Rattle.rules.proofs.Choice.{cond-elim, and-right, and-both, or-left}
+use Rattle.rules.specs.Valid.{inputsTooLarge, outputsTooLarge, inputsNotBuilt, inputsAbsent, cycleCheck}
+use Rattle.rules.proofs.Choice.{cond-elim, and-right, and-both}
 use Rattle.rules.proofs.Masks.{high-below}
-use Rattle.rules.proofs.Total.{passed}
+use Rattle.rules.proofs.Total.{requests-below}
 use Rattle.rules.proofs.Kept.{BeatsOk, built-burst}
 use Rattle.rulebook.specs.declared.Watch.{Watch}
 use Rattle.rulebook.specs.declared.Watch.the-variants.{Nothing, OnG2, OnG3}
@@ -64,20 +63,6 @@ lost-below j s c i below =
     cond-elim (λ (z : ℕ). z < limit (j .n)) (afterDecision j)
     (λ _. longer-below (limit (j .n)) (getD (j .lost) i 0) (loses i (j .previous) c) (s .lost i below))
     (λ _. s .lost i below)
-
--- a valid cycle has no request of an absent master
-requests-below : (n : ℕ) (c : Cycle) → cycleCheck n c ≡ Good → c .inputs .hbusreq < 2 ^ n
-unfolding cycleCheck inputsAbsent
-requests-below n c e =
-    let p =
-    passed
-    (inputsTooLarge (c .inputs) || outputsTooLarge (c .outputs))
-    (inputsNotBuilt (c .inputs))
-    (inputsAbsent n (c .inputs) || outputsAbsent n (c .outputs))
-    (ownerAbsent n (c .outputs))
-    e in
-    let q = or-left (inputsAbsent n (c .inputs)) (outputsAbsent n (c .outputs)) (p .absent) in
-    leb-false (2 ^ n) (c .inputs .hbusreq) (or-left (namesAbsent n (c .inputs .hbusreq)) (namesAbsent n (c .inputs .hlock)) q)
 
 lost-absent : (j : Judge) → Sound j → (c : Cycle) (i : ℕ) → i < mostMasters → j .n ≤ i → lostAfter j c i ≡ 0
 unfolding lostAfter

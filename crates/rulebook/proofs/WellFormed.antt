@@ -1,5 +1,6 @@
 -- The page's test of a well-formed judge, and the facts that it stands for, agree.
 --
+--   good-is         == a check that is good is Good
 --   facts-of        == what passes the test, with a count for each of sixteen masters, has the facts
 --   test-of         == what has the facts passes the test
 use Prim.Native.Nat.{ℕ, _≤_, _<_}
@@ -18,6 +19,7 @@ use Rattle.rules.specs.declared.Outputs.{Outputs}
 use Rattle.rules.specs.Codes.{mostMasters}
 use Rattle.rules.specs.Valid.{cycleCheck}
 use Rattle.rules.proofs.Choice.{either, and-left, and-right, or-left, or-right}
+use Rattle.rules.proofs.WellFormed.{masters-ok}
 use Rattle.rulebook.specs.declared.Watch.{Watch}
 use Rattle.rulebook.specs.declared.Watch.the-variants.{Nothing, OnG2, OnG3}
 use Rattle.rulebook.specs.declared.Judge.{Judge}
@@ -66,7 +68,7 @@ start-of : (j : Judge) → startsOut j ≡ true → Start j
 unfolding startsOut
 start-of j e = search (and-left, and-right) depth 10
 
-good-is : (k : Check) → isGood k ≡ true → k ≡ Good
+pub good-is : (k : Check) → isGood k ≡ true → k ≡ Good
 good-is Good e = refl
 good-is (Bad r) e = absurd (false≢true e)
 
@@ -155,8 +157,7 @@ pub test-of : (j : Judge) → Sound j → wellFormed j ≡ true
 unfolding wellFormed countsOk
 test-of j s =
     rw (
-      le-leb 2 (j .n) (s .few),
-      le-leb (j .n) 16 (s .many),
+      masters-ok (j .n) (s .few) (s .many),
       le-leb (j .count) 1000000 (s .room),
       s .previous,
       lt-ltb (j .locked) 1024 (s .locked),

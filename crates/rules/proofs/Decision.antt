@@ -1,13 +1,13 @@
 -- What a decision does, and what a cycle without one leaves.
 --
---   decides-low, decides-settled, decides-unlocked == what DECIDE says of the state
+--   decides-low, decides-settled == what DECIDE says of the state
 --   chosen-kept   == without a decision the grant stays
 --   chosen-zero   == a decision with no request grants master 0
 --   chosen-below  == the grant that follows is a master
 --   chosen-won    == a decision with a request grants the winner
 use Prim.Native.Nat.{ℕ, _<_}
 use mathlib.Core.Path.{_≡_, refl}
-use mathlib.Core.Bool.{Bool, true, false, not, _&&_}
+use mathlib.Core.Bool.{Bool, true, false, not}
 use native.Mathlib.Omega.{arith}
 use borrow.Author.Tests.{not-true}
 use Rattle.rules.specs.declared.Found.the-variants.{At}
@@ -30,12 +30,6 @@ decides-low s v e =
 pub decides-settled : (s : State) (v : Seen) → decides s v ≡ true → settled (phaseAfter s v) ≡ true
 unfolding decides
 decides-settled s v e = search (and-left, and-right)
-
-pub decides-unlocked : (s : State) (v : Seen) → decides s v ≡ true → (s .hmastlock && v .lock) ≡ false
-unfolding decides
-decides-unlocked s v e =
-    let p : not (s .hmastlock && v .lock) ≡ true = search (and-left, and-right) in
-    not-true (s .hmastlock && v .lock) p
 
 pub chosen-kept : (s : State) (x : Inputs) (w : ℕ) → chosen s x false ≡ At w → w ≡ s .g
 unfolding chosen

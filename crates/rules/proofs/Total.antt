@@ -1,11 +1,13 @@
 -- A well-formed state below the count limit takes every stimulus that is valid for n: it is never refused, by 11 neither.
 --
+--   passed, cycle-passed == where nothing is refused, none of the tests applies
 --   good-masks     == a valid stimulus names no absent master
+--   requests-below == nor do the requests of a valid cycle
 --   chosen-found   == a decision always finds a master, with a request high or not
 --   never-refused  == the step is taken
 use Prim.Native.Nat.{ℕ, _^_, _<_}
 use mathlib.Core.Path.{_≡_, refl}
-use mathlib.Core.Bool.{Bool, true, false}
+use mathlib.Core.Bool.{Bool, true, false, _||_}
 use native.Mathlib.Omega.{arith}
 use borrow.Author.Tests.{leb-false, lt-leb, eqb-false}
 use lib.Dec.{eqb}
@@ -13,11 +15,12 @@ use Rattle.rules.specs.declared.Check.the-variants.{Good}
 use Rattle.rules.specs.declared.Found.the-variants.{At}
 use Rattle.rules.specs.declared.State.{State}
 use Rattle.rules.specs.declared.Inputs.{Inputs}
+use Rattle.rules.specs.declared.Cycle.{Cycle}
 use Rattle.rules.specs.declared.Answer.the-variants.{Next}
 use Rattle.rules.specs.Refusals.{firstOf}
 use Rattle.rules.specs.Codes.{mostCycles}
 use Rattle.rules.specs.Masks.{namesAbsent}
-use Rattle.rules.specs.Valid.{inputsTooLarge, inputsNotBuilt, inputsAbsent, inputsCheck}
+use Rattle.rules.specs.Valid.{inputsTooLarge, outputsTooLarge, inputsNotBuilt, inputsAbsent, outputsAbsent, ownerAbsent, inputsCheck, cycleCheck}
 use Rattle.rules.specs.State.{WellFormed}
 use Rattle.rules.specs.Phase.{seen}
 use Rattle.rules.specs.Step.{chosen, moved, shown, accepted, stepOf}
@@ -40,6 +43,20 @@ passed false true a o e = let z : _≡_ {A = ℕ} 0 1 = cc in absurd (omega arit
 passed false false true o e = let z : _≡_ {A = ℕ} 0 1 = cc in absurd (omega arith)
 passed false false false true e = let z : _≡_ {A = ℕ} 0 1 = cc in absurd (omega arith)
 passed false false false false e = record { value = refl; unbuilt = refl; absent = refl; owner = refl }
+
+pub cycle-passed : (n : ℕ) (c : Cycle) → cycleCheck n c ≡ Good
+    → Passed
+    (inputsTooLarge (c .inputs) || outputsTooLarge (c .outputs))
+    (inputsNotBuilt (c .inputs))
+    (inputsAbsent n (c .inputs) || outputsAbsent n (c .outputs))
+    (ownerAbsent n (c .outputs))
+unfolding cycleCheck
+cycle-passed n c e = passed _ _ _ _ e
+
+pub requests-below : (n : ℕ) (c : Cycle) → cycleCheck n c ≡ Good → c .inputs .hbusreq < 2 ^ n
+unfolding inputsAbsent
+requests-below n c e =
+    leb-false _ _ (or-left _ _ (or-left (inputsAbsent n (c .inputs)) (outputsAbsent n (c .outputs)) (cycle-passed n c e .absent)))
 
 pub record GoodMasks (n : ℕ) (x : Inputs) : Type 0 where
   pub hbusreq : x .hbusreq < 2 ^ n

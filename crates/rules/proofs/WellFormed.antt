@@ -1,5 +1,6 @@
 -- Well-formed states: the test and the facts that it stands for agree, and reset gives such a state.
 --
+--   masters-ok    == n from 2 to 16 passes the test of n
 --   facts-of      == what passes the test has the facts
 --   test-of       == what has the facts passes the test
 --   reset-is      == a reset that is not refused gives the reset state, for n from 2 to 16
@@ -13,7 +14,10 @@ use lib.Dec.{eqb, ltb, leb}
 use Rattle.rules.specs.declared.State.{State}
 use Rattle.rules.specs.declared.Start.the-variants.{Ready}
 use Rattle.rules.specs.State.{mastersOk, resetState, resetOf, phaseOk, wellFormed, WellFormed}
-use Rattle.rules.proofs.Choice.{and-left, and-right}
+use Rattle.rules.proofs.Choice.{and-left, and-right, and-both}
+
+pub masters-ok : (n : ℕ) → 2 ≤ n → n ≤ 16 → mastersOk n ≡ true
+masters-ok n few many = and-both (le-leb 2 n few) (le-leb n 16 many)
 
 -- the parts of the test, as it stands
 record Parts (s : State) : Type 0 where
@@ -54,8 +58,7 @@ pub test-of : (s : State) → WellFormed s → wellFormed s ≡ true
 unfolding wellFormed
 test-of s w =
     simp (
-      le-leb 2 (s .n) (w .few),
-      le-leb (s .n) 16 (w .many),
+      masters-ok (s .n) (w .few) (w .many),
       lt-ltb (s .g) (s .n) (w .grant),
       lt-ltb (s .m) (s .n) (w .owner),
       means-low (s .granted) (eqb (s .g) (s .m)) (λ low. eq-eqb _ _ (w .together low)),
@@ -85,7 +88,7 @@ reset-is n s e = go (mastersOk n) refl
 -- n from 2 to 16 is never refused
 pub reset-taken : (n : ℕ) → 2 ≤ n → n ≤ 16 → resetOf n ≡ Ready (resetState n)
 unfolding resetOf
-reset-taken n few many = rw (le-leb 2 n few, le-leb n 16 many)
+reset-taken n few many = rw (masters-ok n few many)
 
 pub reset-sound : (n : ℕ) → 2 ≤ n → n ≤ 16 → WellFormed (resetState n)
 unfolding phaseOk

@@ -10,7 +10,6 @@ use mathlib.Core.Path.{_≡_, refl, sym, ap, _∙_}
 use mathlib.Core.Bool.{Bool, true, false}
 use mathlib.Core.List.{List, []}
 use native.Mathlib.Omega.{arith}
-use borrow.Author.Tests.{le-leb}
 use lib.ListN.{length}
 use Rattle.rules.specs.declared.Refusal.{Refusal}
 use Rattle.rules.specs.declared.Check.the-variants.{Good}
@@ -23,6 +22,7 @@ use Rattle.rules.specs.Codes.{mostCycles}
 use Rattle.rules.specs.Valid.{cycleCheck}
 use Rattle.rules.specs.State.{WellFormed}
 use Rattle.rules.specs.Step.{stepOf}
+use Rattle.rules.proofs.WellFormed.{masters-ok}
 use Rattle.rules.proofs.Taken.{taken, decide}
 use Rattle.rules.proofs.Kept.{kept}
 use Rattle.rules.proofs.Shown.{valid-shown}
@@ -43,7 +43,7 @@ pub shown-good : (s : State) (x : Inputs) (a : Answer) (t : State) (o : Outputs)
     → forMasters (s .n) (cycleCheck (s .n) (record { inputs = x; outputs = o })) ≡ Good
 shown-good s x a t o e f =
     let k = taken s x t o (sym e ∙ f) in
-    rw (le-leb 2 (s .n) (k .sound .few), le-leb (s .n) 16 (k .sound .many), k .shows)
+    rw (masters-ok (s .n) (k .sound .few) (k .sound .many), k .shows)
     (valid-shown s x (decide s x) (k .sound) (k .good))
 
 module _ (s : State) (x : Inputs) (a : Answer) (e : a ≡ stepOf s x) (buffer : List ℕ) (k : ℕ) (out : List ℕ) where

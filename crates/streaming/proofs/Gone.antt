@@ -12,7 +12,6 @@ use mathlib.Core.Path.{_≡_, refl, sym, _∙_}
 use mathlib.Core.Bool.{true}
 use mathlib.Core.List.{List, _++_}
 use native.Mathlib.Omega.{arith}
-use borrow.Author.Tests.{le-leb}
 use lib.ListN.{length, take, drop, length-append}
 use lib.Seq.{sets, sets-eq}
 use Rattle.rules.specs.declared.Check.the-variants.{Good}
@@ -25,10 +24,12 @@ use Rattle.rules.specs.State.{mastersOk, WellFormed}
 use Rattle.rules.specs.Phase.{seen}
 use Rattle.rules.specs.Step.{shown, stepOf}
 use Rattle.rules.proofs.Flags.{flag-most}
+use Rattle.rules.proofs.WellFormed.{masters-ok}
 use Rattle.rules.proofs.Taken.{decide, taken, next-count}
 use Rattle.formats.specs.declared.StimulusRead.the-variants.{Line}
 use Rattle.formats.specs.Lines.{stimulusLine, traceLine, readStimulusOf}
 use Rattle.formats.proofs.Promises.{read-stimulus-line-writes}
+use Rattle.words.proofs.Words.{part-rest}
 use Rattle.streams.specs.declared.ArbiterStretch.{ArbiterStretch}
 use Rattle.streams.specs.Streams.{Stretch, on, done}
 use Rattle.streams.specs.Arbiter.{arbiterTurn}
@@ -36,7 +37,7 @@ use Rattle.streams.specs.Blocks.{asArbiter, arbiterStretch, bytesOf}
 use Rattle.glances.specs.Glances.{Driven}
 use Rattle.streaming.specs.Turns.{over, Put, Lined}
 use Rattle.streaming.specs.Going.{Going}
-use Rattle.streaming.proofs.Parts.{tail-is, written-on}
+use Rattle.streaming.proofs.Parts.{written-on}
 use Rattle.streaming.proofs.Arbitrated.{stepped-on, read-line}
 
 module _ (n : ℕ) (s : List ℕ) (x : Inputs) (e : readStimulusOf n s 0 ≡ Line x 16) where
@@ -47,7 +48,7 @@ module _ (n : ℕ) (s : List ℕ) (x : Inputs) (e : readStimulusOf n s 0 ≡ Lin
   same-text = sym (read-stimulus-line-writes n s 0 x 16 e .3)
 
 pub formed-masters : (s : State) → WellFormed s → mastersOk (s .n) ≡ true
-formed-masters s f = rw (le-leb 2 (s .n) (f .few), le-leb (s .n) 16 (f .many))
+formed-masters s f = masters-ok (s .n) (f .few) (f .many)
 
 module _ (s t : State) (x : Inputs) (o : Outputs) (e : stepOf s x ≡ Next t o) where
   pub driven : Driven (s .g) o
@@ -86,10 +87,10 @@ module _ {s₀ : State} {block out₀ : List ℕ} {s : State} {at : ℕ} {out : 
     rest = arbiterStretch s (drop at block)
 
     is : r ≡ asArbiter rest
-    is = rw (tail-is at block) at e
+    is = rw (part-rest at block) at e
 
     puts : part ≡ over (bytesOf rest) (take (length out - w) (drop w out))
-    puts = rw (tail-is at block) at p
+    puts = rw (part-rest at block) at p
 
     pub within : r .written ≤ length part
     within = go rest refl

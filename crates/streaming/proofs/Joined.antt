@@ -11,11 +11,11 @@ use native.Mathlib.Omega.{arith}
 use native.Mathlib.Nat.{mul-le-mul-right, le-div-iff-mul-le, div-mul-le-self, add-mul}
 use lib.ListN.{length, take, drop, length-drop}
 use lib.Seq.{drop-drop}
+use Rattle.words.proofs.Words.{part-rest}
 use Rattle.streams.specs.Streams.{Turn, goes, before}
 use Rattle.streams.specs.Blocks.{roomFor}
 use Rattle.streaming.specs.Turns.{stateAfter}
 use Rattle.streaming.specs.Going.{whole, Going, Passing}
-use Rattle.streaming.proofs.Parts.{tail-is}
 use Rattle.streaming.proofs.Stretches.{Program, before-none, line-goes, same-size}
 
 module _ {S : Type 0} {turn : S → List ℕ → Turn S} {width most : ℕ} {Formed : S → Type 0} (M : Program turn width most Formed) {s₀ : S} {block : List ℕ} where
@@ -29,14 +29,14 @@ module _ {S : Type 0} {turn : S → List ℕ → Turn S} {width most : ℕ} {For
         let fits : rest * width ≤ length block - at = div-mul-le-self (length block - at) width in
         let both : rest + g .lines ≤ length block / width = le-div-iff-mul-le some .1 (omega (arith, fits, g .place, g .inside, add-mul rest (g .lines) width)) in
         let up : (rest + 1 + g .lines) * most ≤ (length block / width + 1) * most = mul-le-mul-right most (omega (arith, both)) in
-        rw (tail-is at block, tail-is w out, length-drop, length-drop)
+        rw (part-rest at block, part-rest w out, length-drop, length-drop)
         (omega (arith, up, add-mul (rest + 1) (g .lines) most, g .few, same-size M g big, big))
 
     pub passes : {t : S} {k : ℕ} → Passing turn width Formed s (take (length block - at) (drop at block)) t k
         → Going turn width most Formed s₀ block out₀ t (at + k) out w
     passes {t} {k} p =
-        let left : whole turn s (drop at block) ≡ whole turn t (drop k (drop at block)) = rw (tail-is at block) at (p .left) in
-        let inside : k ≤ length (drop at block) = rw (tail-is at block) at (p .inside) in
+        let left : whole turn s (drop at block) ≡ whole turn t (drop k (drop at block)) = rw (part-rest at block) at (p .left) in
+        let inside : k ≤ length (drop at block) = rw (part-rest at block) at (p .inside) in
         let more : g .lines * most ≤ (g .lines + p .lines) * most = mul-le-mul-right most (omega arith) in
         record {
           formed = p .formed;
@@ -56,7 +56,7 @@ module _ {S : Type 0} {turn : S → List ℕ → Turn S} {width most : ℕ} {For
   pub one-passed : {s t : S} {at : ℕ} → Passing turn width Formed s₀ block s at → at < length block
       → turn s (take (length block - at) (drop at block)) ≡ goes [] t width → Passing turn width Formed s₀ block t (at + width)
   one-passed {s} {t} {at} p h lent =
-      let e : turn s (drop at block) ≡ goes [] t width = rw (tail-is at block) at lent in
+      let e : turn s (drop at block) ≡ goes [] t width = rw (part-rest at block) at lent in
       let n = M .lines .next s (drop at block) [] t width e in
       let kept : stateAfter s (turn s (drop at block)) ≡ t = ap (stateAfter s) e in
       let some : 0 < length (drop at block) = simp length-drop (omega arith) in

@@ -9,11 +9,11 @@ use mathlib.Core.Path.{_≡_, sym, ap, _∙_}
 use mathlib.Core.Bool.{true}
 use mathlib.Core.List.{List, []}
 use native.Mathlib.Nat.{add-zero}
-use borrow.Author.Tests.{le-leb}
 use Rattle.rules.specs.declared.Check.the-variants.{Good}
 use Rattle.rules.specs.declared.Cycle.{Cycle}
 use Rattle.rules.specs.Valid.{cycleCheck}
 use Rattle.rules.specs.State.{mastersOk}
+use Rattle.rules.proofs.WellFormed.{masters-ok}
 use Rattle.rulebook.specs.declared.Judge.{Judge}
 use Rattle.rulebook.specs.Charges.{judged}
 use Rattle.rulebook.specs.Kept.{Sound}
@@ -31,7 +31,7 @@ pub good-cycle : (n : ℕ) (s : List ℕ) (c : Cycle) → readTraceOf n s 0 ≡ 
 good-cycle n s c e = read-trace-line-writes n s 0 c 31 e .1
 
 pub sound-masters : (j : Judge) → Sound j → mastersOk (j .n) ≡ true
-sound-masters j f = rw (le-leb 2 (j .n) (f .few), le-leb (j .n) 16 (f .many))
+sound-masters j f = masters-ok (j .n) (f .few) (f .many)
 
 module _ (n : ℕ) (d : Desk) (c : Cycle) (l : List ℕ) (r : Desk) (k : List ℕ) (kept : Kept n d c l r k) where
   abbrev with : ℕ → Desk → List ℕ → Bench

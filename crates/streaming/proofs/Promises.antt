@@ -7,7 +7,7 @@ use native.Mathlib.Omega.{arith}
 use borrow.Author.Tests.{le-leb}
 use lib.ListN.{length, drop}
 use Rattle.rules.proofs.Choice.{and-both}
-use Rattle.rules.proofs.WellFormed.{facts-of, test-of, reset-sound}
+use Rattle.rules.proofs.WellFormed.{masters-ok, facts-of, test-of, reset-sound}
 use Rattle.rulebook.proofs.WellFormed.{test-of as judge-test}
 use Rattle.rulebook.proofs.Soundness.{start-sound}
 use Rattle.formats.specs.declared.Word.the-variants.{Stim, Trace}
@@ -51,7 +51,7 @@ pub arbiter-ends : ArbiterEnds
 unfolding written arbiterTurn readStimulusOf place
 arbiter-ends s e =
     let f = facts-of s e in
-    rw (le-leb 2 (s .n) (f .few), le-leb (s .n) 16 (f .many))
+    rw (masters-ok (s .n) (f .few) (f .many))
 
 pub judge-ends : JudgeEnds
 judge-ends b e = end-is b (formed-good b e)

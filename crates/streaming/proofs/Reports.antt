@@ -19,11 +19,12 @@ use Rattle.rulebook.specs.declared.Rule.the-variants.{A1, G12}
 use Rattle.rulebook.specs.Rules.{rules}
 use Rattle.rulebook.specs.Step.{flagged}
 use Rattle.formats.specs.Report.{breachLine}
+use Rattle.words.proofs.Words.{part-rest}
 use Rattle.streams.specs.Judging.{breachLines}
 use Rattle.streaming.specs.Turns.{over, Put}
 use Rattle.streaming.specs.Breaches.{someFlag, Reported}
 use Rattle.streaming.proofs.Fits.{breach-size}
-use Rattle.streaming.proofs.Parts.{tail-is, written-on}
+use Rattle.streaming.proofs.Parts.{written-on}
 
 each-low : (k : ℕ) (l : List Bool) → someFlag k l ≡ false → (i : ℕ) → i ≤ k → getD l i false ≡ false
 each-low zero l e i h = let q : i ≡ 0 = omega arith in rw q e
@@ -118,7 +119,7 @@ module _ {t : ℕ} {l : List Bool} {out₀ : List ℕ} where
         ap length (g .puts) ∙ simp (length-append, length-drop, g .size) (omega arith)
 
     pub lent : 315 ≤ length out₀ → i < 21 → 15 ≤ length (take (length out - w) (drop w out))
-    lent big h = rw (tail-is w out, length-drop) (omega (arith, same-size big, g .few))
+    lent big h = rw (part-rest w out, length-drop) (omega (arith, same-size big, g .few))
 
     pub reported : 21 ≤ i → Reported t l out₀ w n out
     unfolding breachLines

@@ -14,11 +14,12 @@ use native.Mathlib.Omega.{arith}
 use native.Mathlib.Nat.{mul-le-mul-right, le-div-iff-mul-le, add-mul}
 use lib.ListN.{length, take, drop, length-append, length-drop}
 use lib.Seq.{drop-drop}
+use Rattle.words.proofs.Words.{part-rest}
 use Rattle.streams.specs.Streams.{Turn, goes, stops, Stretch, on, done, before, step, stretch}
 use Rattle.streams.specs.Blocks.{ByLines, roomFor}
 use Rattle.streaming.specs.Turns.{over, bytesIn, goesOn, stateAfter, Lined}
 use Rattle.streaming.specs.Going.{whole, Going}
-use Rattle.streaming.proofs.Parts.{tail-is, written-on}
+use Rattle.streaming.proofs.Parts.{written-on}
 
 module _ {S : Type 0} where
   pub before-none : (t : Stretch S) → before [] t ≡ t
@@ -116,7 +117,7 @@ module _ {S : Type 0} {turn : S → List ℕ → Turn S} {width most : ℕ} {For
     room big = omega (arith, enough-room big, same-size big)
 
     pub lent : roomFor width most block ≤ length out₀ → most ≤ length (take (length out - w) (drop w out))
-    lent big = rw (tail-is w out, length-drop) (omega (arith, room big))
+    lent big = rw (part-rest w out, length-drop) (omega (arith, room big))
 
     pub used-up : length block ≤ at → Ended turn s₀ block out₀ on s out w
     used-up h =
@@ -142,7 +143,7 @@ module _ {S : Type 0} {turn : S → List ℕ → Turn S} {width most : ℕ} {For
         later = take w out ++ (part ++ drop (length out - w) (drop w out))
 
         lined : Lined s this (take (length out - w) (drop w out)) k going after part
-        lined = rw (tail-is at block) at l
+        lined = rw (part-rest at block) at l
 
         some-left : 0 < length (drop at block)
         some-left = simp length-drop (omega arith)

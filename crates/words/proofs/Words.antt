@@ -1,13 +1,14 @@
 -- Bytes and the number that they write, low byte first, correspond one to one.
 --
---   Bytes b         == each element of b is below 256; none-bytes, one-more, drop-bytes make such lists
+--   Bytes b         == each element of b is below 256; none-bytes, one-more make such lists
 --   slots b p w     == w elements of b from p on; slots-take: the same by take and drop
 --   number-length, number-bytes == a number in w bytes is w bytes
 --   number-low-byte, number-low-rest == the low byte of a number, and the number without it
 --   bytes-of-number == the number that w bytes write has those bytes; again-bytes: the same of a list of w bytes
---   same-bytes      == bytes that write one number are the same; same-taken: the same by take and drop
+--   same-bytes      == bytes that write one number are the same
 --   number-shift    == the number in a list that starts later
---   part-rest, number-part == the same of a slice that starts later, as a call is lent it
+--   part-rest, nothing-after == a slice that starts later, as a call is lent it, is the whole rest
+--   number-part     == the number in such a slice
 --   number-below    == w bytes write a number below 256 ^ w
 --   eight-read, eight-bytes == the ends of `eight` and `put_eight`
 use Prim.Native.Nat.{ℕ, zero, suc, _+_, _-_, _*_, _/_, _%_, _^_, _≤_, _<_}
@@ -15,7 +16,7 @@ use mathlib.Core.Path.{_≡_, refl, sym, _∙_}
 use mathlib.Core.List.{List, [], _∷_}
 use native.Mathlib.Omega.{arith}
 use native.Mathlib.Numerals.{add-one}
-use lib.ListN.{length, getD, take, drop, length-drop}
+use lib.ListN.{length, getD, take, drop, length-drop, drop-of-length-le}
 use lib.Seq.{drop-cons, take-all, getD-drop}
 use Rattle.words.specs.Words.{lowFirst, numberLow}
 
@@ -32,9 +33,6 @@ one-more {x} {b} h w = record { below = at }
     at : (i : ℕ) → getD (x ∷ b) i 0 < 256
     at zero = h
     at (suc i) = w .below i
-
-pub drop-bytes : {b : List ℕ} (k : ℕ) → Bytes b → Bytes (drop k b)
-drop-bytes {b} k h = record { below = λ i. rw (getD-drop k b i 0) (h .below (k + i)) }
 
 -- w elements of a list from p on
 abbrev pub slots : List ℕ → ℕ → ℕ → List ℕ
@@ -69,10 +67,6 @@ again-bytes w c h e = bytes-of-number w c 0 h ∙ sym (slots-take c w 0 (omega a
 pub same-bytes : (w : ℕ) (b : List ℕ) (p : ℕ) (c : List ℕ) → Bytes b → Bytes c → length c ≡ w → numberLow w b p ≡ numberLow w c 0 → slots b p w ≡ c
 same-bytes w b p c h i e f = sym (bytes-of-number w b p h) ∙ rw f (again-bytes w c i e)
 
-pub same-taken : (w : ℕ) (b : List ℕ) (p : ℕ) (c : List ℕ) → Bytes b → Bytes c → p + w ≤ length b → length c ≡ w → numberLow w b p ≡ numberLow w c 0
-    → take w (drop p b) ≡ c
-same-taken w b p c h i room e f = slots-take b w p room ∙ same-bytes w b p c h i e f
-
 pub number-shift : (w k : ℕ) (b : List ℕ) (p : ℕ) → numberLow w (drop k b) p ≡ numberLow w b (k + p)
 number-shift zero k b p = refl
 number-shift (suc w) k b p =
@@ -82,6 +76,9 @@ number-shift (suc w) k b p =
 -- a slice from k on, as a call is lent it
 pub part-rest : (k : ℕ) (b : List ℕ) → take (length b - k) (drop k b) ≡ drop k b
 part-rest k b = take-all (length b - k) (drop k b) (omega (arith, length-drop k b))
+
+pub nothing-after : (k : ℕ) (b : List ℕ) → drop (length b - k) (drop k b) ≡ []
+nothing-after k b = drop-of-length-le (drop k b) {i = length b - k} (simp length-drop (omega arith))
 
 pub number-part : (w k : ℕ) (b : List ℕ) (p : ℕ) → numberLow w (take (length b - k) (drop k b)) p ≡ numberLow w b (k + p)
 number-part w k b p = rw (part-rest k b) (number-shift w k b p)

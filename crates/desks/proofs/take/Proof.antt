@@ -3,7 +3,8 @@ use mathlib.Core.Path.{refl}
 use mathlib.Core.Bool.{false≢true, true≢false}
 use borrow.Author.Tests.{not-true, not-false}
 use Rattle.rules.proofs.Flags.{or-none}
-use Rattle.desks.proofs.Ready.{good-requests, good-plain, sound-ready, sound-counts}
+use Rattle.rules.proofs.Total.{requests-below}
+use Rattle.desks.proofs.Ready.{good-plain, sound-ready, sound-counts}
 use Rattle.desks.proofs.Taking.{keeps}
 use borrow.Author.Needs.{needs}
 use Rattle.desks.proofs.take.Statement.{statement}
@@ -23,7 +24,7 @@ returns c = (λ e. absurd (false≢true e), λ e. refl)
 lose-requires : tie.Need-lose-requires
 lose-requires c κs = let s = c .before .before .before .before .before .before .pre in (
   sound-counts _ (c .before .before .before .before .before .before .args .d) _ (s .0),
-  good-requests _ _ (s .0 .previous),
+  requests-below _ _ (s .0 .previous),
   good-plain _ _ (s .0 .many) (s .0 .previous) .decide,
 )
 

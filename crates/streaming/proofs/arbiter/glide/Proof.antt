@@ -7,11 +7,11 @@ use borrow.Author.Tests.{not-false}
 use lib.ListN.{length, length-drop}
 use Rattle.rules.specs.declared.State.{State}
 use Rattle.rules.specs.State.{WellFormed}
+use Rattle.words.proofs.Words.{part-rest}
 use Rattle.streams.specs.Arbiter.{arbiterTurn}
 use Rattle.glances.specs.Glances.{Digits}
 use Rattle.buses.specs.Buses.{stateFrom}
 use Rattle.streaming.specs.Going.{Going, Within}
-use Rattle.streaming.proofs.Parts.{tail-is}
 use Rattle.streaming.proofs.Ends.{one-more, has-room}
 use Rattle.streaming.proofs.Arbitrated.{arbiter-program}
 use Rattle.streaming.proofs.Gone.{formed-masters}
@@ -64,7 +64,7 @@ part-see-stimulus-end c = search needs
 see-stimulus-requires : tie.Need-see-stimulus-requires Inv-loop μ-loop
 see-stimulus-requires c κs =
     let i = c .before .before .before .loop .inv in
-    (i .4, formed-masters _ (i .0 .formed), rw (tail-is, length-drop) (omega (arith, one-more (i .3) (i .0 .lines) (i .0 .place) (search needs))))
+    (i .4, formed-masters _ (i .0 .formed), rw (part-rest, length-drop) (omega (arith, one-more (i .3) (i .0 .lines) (i .0 .place) (search needs))))
 
 sub-go : tie.Need-sub-go Inv-loop μ-loop
 sub-go c = c .before .before .before .before .before .before .before .loop .inv .0 .inside
@@ -95,7 +95,7 @@ go-requires c κs =
       i .0 .formed,
       i .1,
       has-room (i .3) (i .0 .lines) (i .0 .place) (search needs) _ (i .2),
-      rw (tail-is, length-drop) (omega (arith, one-more (i .3) (i .0 .lines) (i .0 .place) (search needs))),
+      rw (part-rest, length-drop) (omega (arith, one-more (i .3) (i .0 .lines) (i .0 .place) (search needs))),
       lent arbiter-program (i .0) (l .before .before .before .before .before .before .pre .1),
       c .before .before .before .before .before .see-stimulus .ensures (not-false _ (c .before .before .before .if1 .left)),
     )

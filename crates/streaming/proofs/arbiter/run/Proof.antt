@@ -4,7 +4,7 @@ use mathlib.Core.Path.{_≡_, ap}
 use native.Mathlib.Omega.{arith}
 use borrow.Author.Needs.{needs}
 use lib.ListN.{length, take, drop, length-drop}
-use Rattle.streaming.proofs.Parts.{tail-is}
+use Rattle.words.proofs.Words.{part-rest}
 use Rattle.streaming.proofs.Stretches.{same-size, room}
 use Rattle.streaming.proofs.Joined.{rest-room}
 use Rattle.streaming.proofs.Arbitrated.{arbiter-program}
@@ -52,7 +52,7 @@ add-t14 c =
     let fits = within (g .glide .ensures) (a .crawl .result) _ (a .crawl .ensures .0) (a .crawl .ensures .1) in
     let big = g .before .before .before .before .pre .1 in
     let full : length out ≡ length (g .before .before .before .before .args .out .now) = same-size arbiter-program (g .glide .ensures) big in
-    omega (arith, room arbiter-program (g .glide .ensures) big, full, g .before .before .before .before .good .1 .1 .0 .0, fits, same, ap length (tail-is w out), length-drop w out)
+    omega (arith, room arbiter-program (g .glide .ensures) big, full, g .before .before .before .before .good .1 .1 .0 .0, fits, same, ap length (part-rest w out), length-drop w out)
 
 same-length : tie.Need-same-length
 same-length c = search needs

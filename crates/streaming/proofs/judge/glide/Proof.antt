@@ -7,11 +7,11 @@ use borrow.Author.Needs.{needs}
 use borrow.Author.Tests.{not-true, not-false}
 use lib.ListN.{length, length-drop}
 use Rattle.rulebook.specs.declared.Judge.{Judge}
+use Rattle.words.proofs.Words.{part-rest}
 use Rattle.streams.specs.Judging.{judgeTurn}
 use Rattle.desks.specs.Desks.{judgeFrom, Small}
 use Rattle.streaming.specs.Breaches.{Formed}
 use Rattle.streaming.specs.Going.{Passing, Within}
-use Rattle.streaming.proofs.Parts.{tail-is}
 use Rattle.streaming.proofs.Ends.{one-more, has-room}
 use Rattle.streaming.proofs.Joined.{began, one-passed}
 use Rattle.streaming.proofs.Judged.{judge-program}
@@ -65,7 +65,7 @@ see-trace-requires c κs =
     let i = c .before .before .loop .inv in (
       c .before .before .before .before .before .before .before .before .before .before .before .pre .0,
       sound-masters _ (i .0 .formed .judge),
-      rw (tail-is, length-drop) (omega (arith, one-more (i .4) (i .0 .lines) (i .0 .place) (search needs))),
+      rw (part-rest, length-drop) (omega (arith, one-more (i .4) (i .0 .lines) (i .0 .place) (search needs))),
     )
 
 slice-aggregate-take : tie.Need-slice-aggregate-take Inv-loop μ-loop
