@@ -1,9 +1,11 @@
-// Standard input in whole lines, and standard output. No contract can say what is read or written there.
+// Standard input in whole lines, and standard output. No contract can say what is read or written there; the functions that only sort
+// an answer have one.
 use libc::STDIN_FILENO;
 use libc::STDOUT_FILENO;
 use streams::Flow;
 ghost use mathlib.Core.Path.{_≡_};
 ghost use lib.ListN.{take};
+ghost use Rattle.console.specs.Fed.{sizeOf, moreAfter, goesOnAfter};
 
 // What a read came to: so many bytes and more may come, the last bytes of the input, or an error.
 pub enum Fed {
@@ -20,7 +22,9 @@ fn ended(n: usize) -> Fed {
 }
 
 // The bytes that were read.
-pub fn size(f: Fed) -> usize {
+pub fn size(f: Fed) -> usize
+    ensures { λ r. ⌜ r ≡ sizeOf f ⌝ }
+{
     match f {
         Fed::More(n) => n,
         Fed::Last(n) => n,
@@ -29,7 +33,9 @@ pub fn size(f: Fed) -> usize {
 }
 
 // Whether more may come.
-pub fn more(f: Fed) -> bool {
+pub fn more(f: Fed) -> bool
+    ensures { λ r. ⌜ r ≡ moreAfter f ⌝ }
+{
     match f {
         Fed::More(_) => true,
         Fed::Last(_) => false,
@@ -81,7 +87,9 @@ pub fn give(n: usize, buf: &[u8]) -> bool {
 }
 
 // Whether a program goes on after a block.
-pub fn goes_on(f: Flow) -> bool {
+pub fn goes_on(f: Flow) -> bool
+    ensures { λ r. ⌜ r ≡ goesOnAfter f ⌝ }
+{
     match f {
         Flow::GoesOn => true,
         Flow::Stopped => false,
