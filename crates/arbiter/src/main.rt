@@ -2,6 +2,13 @@
 use console::Fed;
 use rules::State;
 use streaming::ArbiterHead;
+ghost use mathlib.Core.Path.{_≡_};
+ghost use mathlib.Core.Bool.{true};
+ghost use Prim.Native.Nat.{_≤_};
+ghost use lib.ListN.{length};
+ghost use Rattle.streams.specs.declared.Flow.the-variants.{GoesOn};
+ghost use Rattle.streams.specs.Blocks.{arbiterBlockOf};
+ghost use Rattle.console.specs.Fed.{Nearer};
 
 // After a block: whether the program goes on, and its state.
 struct After {
@@ -10,7 +17,10 @@ struct After {
 }
 
 // A block that was read: its lines are taken, and what they come to is written.
-fn take(s: State, block: &[u8], more: bool, out: &mut [u8]) -> After {
+fn take(s: State, block: &[u8], more: bool, out: &mut [u8]) -> After
+    ensures { λ r. ⌜ (r .on ≡ true → (more ≡ true) × (arbiterBlockOf s (now (block .entry)) (length (now (out .entry))) .flow ≡ GoesOn)) ⌝ }
+    ensures { λ r. ⌜ r .state ≡ arbiterBlockOf s (now (block .entry)) (length (now (out .entry))) .state ⌝ }
+{
     let a = streaming::arbiter_block(s, block, out);
     let given = console::give(a.written, out);
     let flow = a.flow;
@@ -23,30 +33,36 @@ fn take(s: State, block: &[u8], more: bool, out: &mut [u8]) -> After {
 }
 
 // One block. A short one is the last, and one that cannot be read is empty.
-fn turn(s: State, block: &mut [u8], out: &mut [u8]) -> After {
+fn turn(s: State, block: &mut [u8], out: &mut [u8]) -> After
+    requires { ⌜ 1 ≤ length (now block) ⌝ }
+    ensures { λ r. ⌜ Nearer (r .on) (s .count) (r .state .count) ⌝ }
+{
     let fed = console::read_block(block);
     let n = console::size(fed);
     let more = console::more(fed);
     take(s, console::first(n, block), more, out)
 }
 
-// Block after block: 489 blocks of 2,048 lines hold 1,000,001 lines, the last of which is refused.
-fn run(start: State, block: &mut [u8], out: &mut [u8]) {
+// Block after block, and no bound on their number: each that is not the last brings the count nearer to 1,000,000, and the line after that stops the
+// program.
+fn run(start: State, block: &mut [u8], out: &mut [u8])
+    requires { ⌜ 1 ≤ length (now block) ⌝ }
+{
     let mut state = start;
-    let mut turns: u32 = 489;
-    while turns > 0 {
+    loop {
         let t = turn(state, block, out);
-        let next = t.state;
-        state = next;
         if !t.on {
             return;
         }
-        turns -= 1;
+        let next = t.state;
+        state = next;
     }
 }
 
 // The header, and the blocks after one that is accepted.
-fn start(n: usize, block: &mut [u8], out: &mut [u8]) {
+fn start(n: usize, block: &mut [u8], out: &mut [u8])
+    requires { ⌜ 1 ≤ length (now block) ⌝ }
+{
     match streaming::arbiter_head(console::first(n, block), out) {
         ArbiterHead::Begun(w, s) => {
             if console::give(w, out) {

@@ -19,7 +19,7 @@ abbrev pub movedNumber : Moved → ℕ
 movedNumber (Shown o) = 0
 movedNumber (Refused r) = numberOf r
 
--- "Every refusal returns its number with the state .. as given."
+-- "Every refusal returns its number with the state .. as given"
 abbrev pub heldAfter : State → Answer → State
 heldAfter s (answer.Next t o) = t
 heldAfter s (answer.Refused r t) = s

@@ -1,75 +1,98 @@
--- DECIDE over the numbers of phases.
+-- A decision with GRANTED low, from the numbers.
 --
---   settled-number, fresh-number, protected-number == what DECIDE asks of a phase and of HBURST, as tests of numbers
---   decided         == DECIDE as those tests
-use Prim.Native.Nat.{ℕ, zero, suc, _≤_}
+--   some-winner     == where some bit is high, the walk ends at a master
+--   decided         == DECIDE is high exactly where neither the lock nor the burst holds the bus
+--   chooses-zero, chooses-winner, chooses-none == the three ends of the choice
+use Prim.Native.Nat.{ℕ, zero, suc, _^_, _≤_, _<_}
 use mathlib.Core.Path.{_≡_, refl, sym, _∙_, ap}
-use mathlib.Core.Bool.{Bool, true, false, not, _&&_, _||_, cond}
+use mathlib.Core.Bool.{Bool, true, false, not, _&&_, cond, true≢false}
 use native.Mathlib.Omega.{arith}
-use borrow.Author.Tests.{ne-eqb}
-use lib.Dec.{eqb, leb}
-use Rattle.rules.specs.declared.Burst.{Burst}
+use borrow.Author.Tests.{eq-eqb, ne-eqb, eqb-false}
+use lib.Dec.{eqb}
+use lib.Bits.{bitAnd, bitOr}
+use Rattle.rules.specs.declared.Found.{Found}
+use Rattle.rules.specs.declared.Found.the-variants.{At, Nothing}
 use Rattle.rules.specs.declared.Phase.{Phase}
+use Rattle.rules.specs.declared.Phase.the-variants.{Fresh}
 use Rattle.rules.specs.declared.Inputs.{Inputs}
-use Rattle.rules.specs.Codes.{burstOf}
-use Rattle.rules.specs.Masks.{high}
-use Rattle.rules.specs.Phase.{seen, protected, phaseAfter, settled, isFresh, opensLater, decides}
-use Rattle.rules.proofs.Choice.{cond-elim}
+use Rattle.rules.specs.Codes.{ready}
+use Rattle.rules.specs.Masks.{high as bitOf}
+use Rattle.rules.specs.Winner.{winner}
+use Rattle.rules.specs.Phase.{seen, phaseAfter, settled, opensLater, decides}
+use Rattle.rules.specs.Step.{flagOf, chosen, grantedAfter}
+use Rattle.rules.proofs.Flags.{or-none}
+use Rattle.rules.proofs.Masks.{some-is-high}
+use Rattle.rules.proofs.Winner.{winner-won}
+use Rattle.signals.specs.Flags.{Stands}
+use Rattle.signals.proofs.Flags.{as-flag, both, high, small, low-number}
 use Rattle.buses.specs.declared.Bus.{Bus}
-use Rattle.buses.specs.Buses.{phaseFrom, Numbers, stateFrom, LowIs}
+use Rattle.buses.specs.Buses.{phaseFrom, stateFrom, lowAfter, decideOf, Runs, Chooses}
 
-settled-from : (k : ℕ) → k ≤ 5 → settled (phaseFrom k) ≡ (eqb k 0 || eqb k 5)
-unfolding phaseFrom
-settled-from zero h = refl
-settled-from (suc zero) h = refl
-settled-from (suc (suc zero)) h = refl
-settled-from (suc (suc (suc zero))) h = refl
-settled-from (suc (suc (suc (suc zero)))) h = refl
-settled-from (suc (suc (suc (suc (suc zero))))) h = refl
-settled-from (suc (suc (suc (suc (suc (suc k)))))) h = absurd (omega arith)
+pub some-winner : (n g m : ℕ) (f : Found) → m < 2 ^ n → eqb m 0 ≡ false → f ≡ winner n g m → f ≡ Nothing → ⊥
+some-winner n g m f below some walk none =
+    let r = some-is-high n m below (eqb-false m 0 some) in
+    let v = winner-won n g m (r .at) (r .there) (r .is-high) in
+    let z : _≡_ {A = ℕ} 0 1 = cc (v .found) in
+    omega arith
 
-settled-number : (p : Phase) (k : ℕ) → Numbers p k → settled p ≡ (eqb k 0 || eqb k 5)
-settled-number p k e = ap settled (sym (e .is)) ∙ settled-from k (e .small)
+-- `|` is 0 exactly where both its parts are
+or-zero : (i j : ℕ) → (eqb i 0 && eqb j 0) ≡ eqb (bitOr i j) 0
+or-zero zero j = refl
+or-zero (suc i) j =
+    rw (ne-eqb (suc i) 0 (λ e. omega arith)) (sym (ne-eqb (bitOr (suc i) j) 0 (λ e. omega (arith, or-none (suc i) j e .0))))
 
-fresh-number : (k : ℕ) → k ≤ 5 → isFresh (phaseFrom k) ≡ eqb k 5
-unfolding phaseFrom
-fresh-number zero h = refl
-fresh-number (suc zero) h = refl
-fresh-number (suc (suc zero)) h = refl
-fresh-number (suc (suc (suc zero))) h = refl
-fresh-number (suc (suc (suc (suc zero)))) h = refl
-fresh-number (suc (suc (suc (suc (suc zero))))) h = refl
-fresh-number (suc (suc (suc (suc (suc (suc k)))))) h = absurd (omega arith)
+-- s says whether the phase after is neither Fixed nor Open, l whether the lock holds the bus, and o whether a burst opens later
+free-by : (s l o f : Bool) → (s && not o) ≡ f → (s && not l && not o) ≡ (not l && f)
+free-by true true o f e = refl
+free-by true false o f e = e
+free-by false true o f e = refl
+free-by false false o f e = e
 
-protected-number : (h : ℕ) (lock : Bool) → protected (burstOf h) lock ≡ (eqb h 3 || (eqb h 1 && lock))
-unfolding burstOf
-protected-number zero lock = refl
-protected-number (suc zero) lock = refl
-protected-number (suc (suc zero)) lock = refl
-protected-number (suc (suc (suc zero))) lock = refl
-protected-number (suc (suc (suc (suc h)))) lock =
-    let z = ne-eqb (suc (suc (suc (suc h)))) 0 (λ e. omega arith) in
-    let o = ne-eqb (suc (suc (suc (suc h)))) 1 (λ e. omega arith) in
-    let f = ne-eqb (suc (suc (suc (suc h)))) 3 (λ e. omega arith) in
-    rw (z, o, f)
-    (cond-elim (λ (b : Burst). protected b lock ≡ false) (leb (suc (suc (suc (suc h)))) 7) (λ _. refl) (λ _. refl))
+-- with GRANTED low the phase after is q
+low-by : (granted l o f : Bool) (p q : Phase) → granted ≡ false → (settled q && not o) ≡ f
+    → (not granted && settled (cond granted p q) && not l && not o) ≡ (not l && f)
+low-by true l o f p q e h = absurd (true≢false e)
+low-by false l o f p q e h = free-by (settled q) l o f h
 
--- with GRANTED low the phase after the cycle is q
-low-settled : (granted : Bool) (p q : Phase) → (not granted && settled (cond granted p q)) ≡ (not granted && settled q)
-low-settled true p q = refl
-low-settled false p q = refl
+module _ (n : ℕ) (b : Bus) (x : Inputs) where
+  -- lock is the owner's lock line
+  pub decided : (lock busy k : ℕ) → b .granted ≡ 0 → b .hmastlock ≤ 1 → Stands lock (bitOf (x .hlock) (b .m)) → Runs n b x busy k
+      → decideOf n b x ≡ eqb (bitOr (bitAnd (b .hmastlock) lock) busy) 0
+  unfolding decides phaseAfter seen
+  decided lock busy k e few s runs =
+      let held = both (as-flag (b .hmastlock) few) s in
+      low-by (eqb (b .granted) 1) (eqb (b .hmastlock) 1 && bitOf (x .hlock) (b .m)) (opensLater (stateFrom n b) (seen (stateFrom n b) x)) (eqb busy 0) (cond (ready x) Fresh (phaseFrom (b .phase))) (lowAfter n b x) (ap (λ (k : ℕ). eqb k 1) e) (runs .free)
+      ∙ ap (λ (l : Bool). not l && eqb busy 0) (sym (high held))
+      ∙ ap (λ (l : Bool). l && eqb busy 0) (sym (low-number _ (small held)))
+      ∙ or-zero (bitAnd (b .hmastlock) lock) busy
 
--- low is the number of the phase after a cycle with GRANTED low
-pub decided : (n : ℕ) (b : Bus) (x : Inputs) (low : ℕ) → b .phase ≤ 5
-    → LowIs n b x low
-    → decides (stateFrom n b) (seen (stateFrom n b) x)
-    ≡ (not (b .granted)
-    && (eqb low 0 || eqb low 5)
-    && not (b .hmastlock && high (x .hlock) (b .m))
-    && not (eqb (b .phase) 5
-    && (eqb (x .hburst) 3 || (eqb (x .hburst) 1 && b .hmastlock))
-    && eqb (x .htrans) 2
-    && not (eqb (x .hready) 1)))
-unfolding decides phaseAfter opensLater seen
-decided n b x low h l =
-    rw (low-settled, settled-number _ low l, fresh-number (b .phase) h, protected-number)
+  module _ (held : ℕ) where
+    pub chooses-zero : (granted : ℕ) → held ≡ 0 → x .hbusreq ≡ 0 → granted ≡ flagOf (not (eqb (b .m) 0)) → Chooses n b x (eqb held 0) 0 granted 1
+    unfolding chosen grantedAfter
+    chooses-zero granted e z f =
+        rw (eq-eqb held 0 e)
+        (record {
+          grant = rw (eq-eqb (x .hbusreq) 0 z);
+          grants = record { is = rw (eq-eqb (x .hbusreq) 0 z) f };
+          decides = record { is = refl };
+        })
+
+    pub chooses-winner : (w : ℕ) → held ≡ 0 → (x .hbusreq ≡ 0 → ⊥) → winner n (b .g) (x .hbusreq) ≡ At w → Chooses n b x (eqb held 0) w 1 1
+    unfolding chosen grantedAfter
+    chooses-winner w e some f =
+        rw (eq-eqb held 0 e)
+        (record {
+          grant = rw (ne-eqb (x .hbusreq) 0 some) f;
+          grants = record { is = rw (ne-eqb (x .hbusreq) 0 some) };
+          decides = record { is = refl };
+        })
+
+    pub chooses-none : (held ≡ 0 → ⊥) → b .granted ≡ 0 → Chooses n b x (eqb held 0) (b .g) 0 0
+    unfolding chosen grantedAfter
+    chooses-none e low =
+        rw (ne-eqb held 0 e)
+        (record {
+          grant = refl;
+          grants = record { is = rw low };
+          decides = record { is = refl };
+        })

@@ -1,3 +1,5 @@
 pub mod Phases
+pub mod Bursts
 pub mod Decision
 pub mod Step
+pub mod Unique

@@ -1,36 +1,46 @@
--- The numbers of phases: each rule of a phase as a choice between numbers.
+-- The numbers of phases: what each rule of a phase makes of them.
 --
 --   number          == a number from 0 to 5 is that of its phase
 --   number-of       == a phase that fits a state has a number
---   same-number     == a number that equals a phase's is that phase's
---   both            == a choice between phases is the choice between their numbers
---   more-to-come, none-less == a ready cycle less, where some are to come
---   opened-number, low-number, after-number == the phase that a first beat opens, after a cycle with GRANTED low, after any cycle
-use Prim.Native.Nat.{ℕ, zero, suc, _-_, _≤_}
-use mathlib.Core.Path.{_≡_, refl}
-use mathlib.Core.Bool.{Bool, true, false, _&&_, not, cond}
+--   begun-number    == so has a phase that is not Fresh
+--   picked          == a choice between two phases is the choice between their numbers
+--   four-beats, some-beats == a fixed burst has four beats
+--   opens-single, opens-incr, opens-fixed, opens-unbuilt, opens-none == the phase that a first beat opens
+--   stays-done, counted, stays-open == the phase after a later cycle with GRANTED low: of Done, of Fixed, of Open
+use Prim.Native.Nat.{ℕ, zero, suc, _*_, _-_, _≤_}
+use mathlib.Core.Path.{_≡_, refl, sym, _∙_}
+use mathlib.Core.Bool.{Bool, true, false, cond}
 use native.Mathlib.Omega.{arith}
-use borrow.Author.Tests.{leb-true, eqb-true, eqb-false, ne-eqb, not-true, not-false}
+use borrow.Author.Tests.{leb-true, le-leb, ne-eqb}
 use lib.Dec.{eqb, leb}
 use Rattle.rules.specs.declared.Burst.{Burst}
+use Rattle.rules.specs.declared.Burst.the-variants as burst
 use Rattle.rules.specs.declared.Phase.{Phase}
 use Rattle.rules.specs.declared.Phase.the-variants.{Fresh, Fixed, Open, Done}
-use Rattle.rules.specs.declared.Seen.{Seen}
+use Rattle.rules.specs.declared.Inputs.{Inputs}
 use Rattle.rules.specs.Codes.{burstOf}
+use Rattle.rules.specs.Masks.{high as bitOf}
 use Rattle.rules.specs.State.{phaseOk}
-use Rattle.rules.specs.Phase.{phaseOpened, phaseLow}
-use Rattle.rules.proofs.Choice.{cond-elim, order, and-left, and-right}
-use Rattle.buses.specs.Buses.{phaseFrom, phaseNumber, Numbers}
+use Rattle.rules.specs.Phase.{seen, phaseOpened}
+use Rattle.rules.proofs.Choice.{and-left, and-right}
+use Rattle.signals.specs.Flags.{Stands}
+use Rattle.signals.proofs.Flags.{binary, high, small}
+use Rattle.signals.proofs.Codes.{by-code}
+use Rattle.buses.specs.declared.Bus.{Bus}
+use Rattle.buses.specs.Buses.{phaseFrom, phaseNumber, Numbers, Begun, lowAfter}
 
 pub number : (k : ℕ) → k ≤ 5 → Numbers (phaseFrom k) k
 number k h = record { is = refl; small = h }
 
-fixed-number : (k : ℕ) → leb 1 k ≡ true → leb k 3 ≡ true → Numbers (Fixed k) k
+fixed-from : (k : ℕ) → 1 ≤ k → k ≤ 3 → phaseFrom k ≡ Fixed k
 unfolding phaseFrom
+fixed-from k low top = simp (ne-eqb k 0 (λ e. omega arith), le-leb k 3 top)
+
+fixed-number : (k : ℕ) → leb 1 k ≡ true → leb k 3 ≡ true → Numbers (Fixed k) k
 fixed-number k p q =
     let low = leb-true 1 k p in
     let top = leb-true k 3 q in
-    record { is = simp (ne-eqb k 0 (λ e. omega arith), q); small = omega arith }
+    record { is = fixed-from k low top; small = omega arith }
 
 pub number-of : (p : Phase) (granted lock : Bool) → phaseOk p granted lock ≡ true → Numbers p (phaseNumber p)
 unfolding phaseFrom phaseOk
@@ -39,53 +49,75 @@ number-of (Fixed k) granted lock e = fixed-number k (search (and-left, and-right
 number-of Open granted lock e = number 4 (omega arith)
 number-of Done granted lock e = number 0 (omega arith)
 
-pub same-number : {p : Phase} {k r : ℕ} → Numbers p k → r ≡ k → Numbers p r
-same-number h e = rw e h
+pub begun-number : {p : Phase} {k : ℕ} → Begun p k → Numbers p k
+begun-number {p} {k} e = let h = e .small in record { is = e .is; small = omega arith }
 
-pub both : {p q : Phase} {i j : ℕ} (b : Bool) → Numbers p i → Numbers q j → Numbers (cond b p q) (cond b i j)
-both true f g = f
-both false f g = g
+pub picked : {p q : Phase} {i j : ℕ} (b : Bool) → Numbers p i → Numbers q j → Numbers (cond b p q) (cond b i j)
+picked true f g = f
+picked false f g = g
 
-pub more-to-come : (ready : Bool) (k : ℕ) → (ready && not (eqb k 0)) ≡ true → 1 ≤ k
-more-to-come ready k e =
-    let ne = eqb-false k 0 (not-true (eqb k 0) (and-right ready (not (eqb k 0)) e)) in
-    order 1 k (λ h. h) (λ h. absurd (ne (omega arith)))
+begun : (k : ℕ) → k ≤ 4 → Begun (phaseFrom k) k
+begun k h = record { is = refl; small = h }
 
-pub none-less : (ready : Bool) (k : ℕ) → (ready && not (eqb k 0)) ≡ false → k ≡ cond ready (k - 1) k
-none-less true k e = let z = eqb-true k 0 (not-false (eqb k 0) e) in omega arith
-none-less false k e = refl
-
--- HBURST 3 opens three beats to come, and 1 an open burst where HMASTLOCK is high
-pub opened-number : (h : ℕ) (lock : Bool) → Numbers (phaseOpened (burstOf h) lock) (cond (eqb h 3) 3 (cond (eqb h 1 && lock) 4 0))
-unfolding burstOf phaseFrom
-opened-number zero lock = number 0 (omega arith)
-opened-number (suc zero) lock = both lock (number 4 (omega arith)) (number 0 (omega arith))
-opened-number (suc (suc zero)) lock = number 0 (omega arith)
-opened-number (suc (suc (suc zero))) lock = number 3 (omega arith)
-opened-number (suc (suc (suc (suc h)))) lock =
-    let z = ne-eqb (suc (suc (suc (suc h)))) 0 (λ e. omega arith) in
-    let o = ne-eqb (suc (suc (suc (suc h)))) 1 (λ e. omega arith) in
-    let f = ne-eqb (suc (suc (suc (suc h)))) 3 (λ e. omega arith) in
-    rw (z, o, f)
-    (cond-elim (λ (b : Burst). Numbers (phaseOpened b lock) 0) (leb (suc (suc (suc (suc h)))) 7)
-    (λ _. number 0 (omega arith))
-    (λ _. number 0 (omega arith)))
-
--- first is what a first beat opens
-pub low-number : (k first : ℕ) (lock : Bool) (v : Seen) → k ≤ 5 → Numbers (phaseOpened (v .burst) lock) first
-    → Numbers (phaseLow (phaseFrom k) lock v)
-    (cond (eqb k 5) (cond (v .ready && v .nonseq) first 5) (cond (eqb k 4) (cond (v .request) 4 0) (cond (v .ready) (k - 1) k)))
+-- a number that stands for a flag, four times: Open where the flag is high, and Done where it is low
+open-by : (x : ℕ) → x ≤ 1 → Begun (cond (eqb x 1) Open Done) (4 * x)
 unfolding phaseFrom
-low-number zero first lock v h o = cond-elim (Numbers Done) (v .ready) (λ _. number 0 (omega arith)) (λ _. number 0 (omega arith))
-low-number (suc zero) first lock v h o = both (v .ready) (number 0 (omega arith)) (number 1 (omega arith))
-low-number (suc (suc zero)) first lock v h o = both (v .ready) (number 1 (omega arith)) (number 2 (omega arith))
-low-number (suc (suc (suc zero))) first lock v h o = both (v .ready) (number 2 (omega arith)) (number 3 (omega arith))
-low-number (suc (suc (suc (suc zero)))) first lock v h o = both (v .request) (number 4 (omega arith)) (number 0 (omega arith))
-low-number (suc (suc (suc (suc (suc zero))))) first lock v h o = both (v .ready && v .nonseq) o (number 5 (omega arith))
-low-number (suc (suc (suc (suc (suc (suc k)))))) first lock v h o = absurd (omega arith)
+open-by = binary (λ x. Begun (cond (eqb x 1) Open Done) (4 * x)) (begun 0 (omega arith)) (begun 4 (omega arith))
 
--- low is the phase after with GRANTED low, and i its number
-pub after-number : (granted ready : Bool) (k i : ℕ) (low : Phase) → k ≤ 5 → Numbers low i
-    → Numbers (cond granted (cond ready Fresh (phaseFrom k)) low) (cond granted (cond ready 5 k) i)
+-- the only fixed burst has four beats
+pub four-beats : (h beats : ℕ) (b : Burst) → b ≡ burstOf h → b ≡ burst.Fixed beats → beats ≡ 4
+four-beats h beats b e f =
+    by-code (λ i k b. (beats : ℕ) → b ≡ burst.Fixed beats → beats ≡ 4)
+    (λ k q. nothing (cc)) (λ k q. nothing (cc)) (λ k q. cc) (λ k q. nothing (cc)) (λ k q. nothing (cc)) h beats (sym e ∙ f)
+  where
+    nothing : {k : ℕ} → _≡_ {A = ℕ} 0 1 → k ≡ 4
+    nothing e = absurd (omega arith)
+
+pub some-beats : (h beats : ℕ) (b : Burst) → b ≡ burstOf h → b ≡ burst.Fixed beats → 1 ≤ beats
+some-beats h beats b e f = omega (arith, four-beats h beats b e f)
+
+-- the phase that a first beat opens, by the sort of its burst
+module _ (h lock : ℕ) (b : Burst) (e : b ≡ burstOf h) where
+  pub opens-single : b ≡ burst.Single → Begun (phaseOpened (burstOf h) (eqb lock 1)) 0
+  unfolding phaseFrom
+  opens-single f = rw (← e, f) (begun 0 (omega arith))
+
+  pub opens-incr : lock ≤ 1 → b ≡ burst.Unspecified → Begun (phaseOpened (burstOf h) (eqb lock 1)) (4 * lock)
+  opens-incr few f = rw (← e, f) (open-by lock few)
+
+  pub opens-fixed : (beats : ℕ) → b ≡ burst.Fixed beats → Begun (phaseOpened (burstOf h) (eqb lock 1)) (beats - 1)
+  unfolding phaseFrom
+  opens-fixed beats f = rw (← e, f, four-beats h beats b e f) (begun 3 (omega arith))
+
+  pub opens-unbuilt : b ≡ burst.NotBuilt → Begun (phaseOpened (burstOf h) (eqb lock 1)) 0
+  unfolding phaseFrom
+  opens-unbuilt f = rw (← e, f) (begun 0 (omega arith))
+
+  pub opens-none : b ≡ burst.NoCode → Begun (phaseOpened (burstOf h) (eqb lock 1)) 0
+  unfolding phaseFrom
+  opens-none f = rw (← e, f) (begun 0 (omega arith))
+
+-- a ready cycle less
+counted-by : (k : ℕ) → 1 ≤ k → k ≤ 3 → (h : ℕ) → h ≤ 1 → Begun (cond (eqb h 1) (cond (leb k 1) Done (Fixed (k - 1))) (Fixed k)) (k - h)
 unfolding phaseFrom
-after-number granted ready k i low h l = both granted (both ready (number 5 (omega arith)) (number k h)) l
+counted-by zero low top h few = absurd (omega arith)
+counted-by (suc zero) low top h few =
+    binary (λ h. Begun (cond (eqb h 1) Done (Fixed 1)) (1 - h)) (begun 1 (omega arith)) (begun 0 (omega arith)) h few
+counted-by (suc (suc zero)) low top h few =
+    binary (λ h. Begun (cond (eqb h 1) (Fixed 1) (Fixed 2)) (2 - h)) (begun 2 (omega arith)) (begun 1 (omega arith)) h few
+counted-by (suc (suc (suc zero))) low top h few =
+    binary (λ h. Begun (cond (eqb h 1) (Fixed 2) (Fixed 3)) (3 - h)) (begun 3 (omega arith)) (begun 2 (omega arith)) h few
+counted-by (suc (suc (suc (suc k)))) low top h few = absurd (omega arith)
+
+module _ (n : ℕ) (b : Bus) (x : Inputs) where
+  pub stays-done : b .phase ≡ 0 → Begun (lowAfter n b x) 0
+  unfolding phaseFrom
+  stays-done e = rw e (begun 0 (omega arith))
+
+  pub counted : 1 ≤ b .phase → b .phase ≤ 3 → x .hready ≤ 1 → Begun (lowAfter n b x) (b .phase - x .hready)
+  unfolding seen
+  counted low top few = rw (fixed-from (b .phase) low top) (counted-by (b .phase) low top (x .hready) few)
+
+  pub stays-open : (request : ℕ) → b .phase ≡ 4 → Stands request (bitOf (x .hbusreq) (b .m)) → Begun (lowAfter n b x) (4 * request)
+  unfolding phaseFrom seen
+  stays-open request e s = rw (e, ← high s) (open-by request (small s))

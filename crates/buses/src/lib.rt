@@ -1,33 +1,43 @@
-// The arbiter in plain numbers, for the program's inner loop: the same step, on a state that fits into registers.
+// The arbiter's cycle, on a state of plain numbers that fits into registers.
+mod course;
+mod walk;
+
 use rules::Found;
 use rules::Inputs;
 use rules::Outputs;
 use rules::Phase;
 use rules::State;
 ghost use mathlib.Core.Path.{_≡_};
-ghost use mathlib.Core.Bool.{false, cond};
-ghost use Prim.Native.Nat.{_-_, _≤_, _<_, _^_};
+ghost use mathlib.Core.Bool.{false};
+ghost use Prim.Native.Nat.{_≤_, _<_, _^_};
 ghost use lib.Dec.{eqb};
 ghost use Rattle.rules.specs.declared.Check.the-variants.{Good};
 ghost use Rattle.rules.specs.declared.Answer.the-variants.{Next};
 ghost use Rattle.rules.specs.declared.Found.the-variants.{At};
-ghost use Rattle.rules.specs.Codes.{mostCycles, burstOf};
+ghost use Rattle.rules.specs.Codes.{mostCycles};
 ghost use Rattle.rules.specs.Masks.{high, single};
 ghost use Rattle.rules.specs.Valid.{inputsCheck};
 ghost use Rattle.rules.specs.Winner.{winner as winnerOf};
 ghost use Rattle.rules.specs.State.{WellFormed};
-ghost use Rattle.rules.specs.Phase.{seen, phaseOpened, phaseAfter, decides};
-ghost use Rattle.rules.specs.Step.{flagOf, chosen, moved, shown, stepOf};
-ghost use Rattle.buses.specs.Buses.{phaseFrom, phaseNumber, Numbers, stateFrom, LowIs};
+ghost use Rattle.rules.specs.Phase.{seen};
+ghost use Rattle.rules.specs.Step.{flagOf, shown, stepOf};
+ghost use Rattle.signals.specs.Flags.{Stands};
+ghost use Rattle.buses.specs.Buses.{phaseFrom, phaseNumber, stateFrom, Fit, Due, decideOf, Chooses, Moves};
 
-// A state but for n. The phase is one number: 0 Done, 1 to 3 Fixed with so many ready cycles to come, 4 Open, 5 Fresh.
+// A state but for n. A flag is 0 or 1, and the phase is one number: 0 Done, 1 to 3 Fixed with so many ready cycles to come, 4 Open, 5 Fresh.
 pub struct Bus {
     pub g: u32,
     pub m: u32,
-    pub hmastlock: bool,
-    pub granted: bool,
+    pub hmastlock: u32,
+    pub granted: u32,
     pub phase: u32,
     pub count: u32,
+}
+
+fn flag(b: bool) -> u32
+    ensures { λ r. ⌜ r ≡ flagOf b ⌝ }
+{
+    if b { 1 } else { 0 }
 }
 
 fn phase_number(p: Phase) -> u32
@@ -55,14 +65,14 @@ fn phase(k: u32) -> Phase
 // A state in plain numbers.
 pub fn bus_of(s: State) -> Bus
     requires { ⌜ WellFormed s ⌝ }
-    ensures { λ b. ⌜ (stateFrom (s .n) b ≡ s) × (b .phase ≤ 5) ⌝ }
+    ensures { λ b. ⌜ (stateFrom (s .n) b ≡ s) × Fit b ⌝ }
 {
     let p = s.phase;
     Bus {
         g: s.g,
         m: s.m,
-        hmastlock: s.hmastlock,
-        granted: s.granted,
+        hmastlock: flag(s.hmastlock),
+        granted: flag(s.granted),
         phase: phase_number(p),
         count: s.count,
     }
@@ -77,19 +87,19 @@ pub fn state(n: u32, b: Bus) -> State
         n,
         g: b.g,
         m: b.m,
-        hmastlock: b.hmastlock,
-        granted: b.granted,
+        hmastlock: b.hmastlock == 1,
+        granted: b.granted == 1,
         phase: phase(k),
         count: b.count,
     }
 }
 
 // The bit of master i.
-fn bit(m: u32, i: u32) -> bool
+fn bit(m: u32, i: u32) -> u32
     requires { ⌜ i < 32 ⌝ }
-    ensures { λ r. ⌜ r ≡ high m i ⌝ }
+    ensures { λ r. ⌜ Stands r (high m i) ⌝ }
 {
-    (m >> i) % 2 == 1
+    (m >> i) % 2
 }
 
 // The mask of master i alone.
@@ -100,117 +110,123 @@ fn mask(i: u32) -> u32
     1 << i
 }
 
-fn flag(b: bool) -> u32
-    ensures { λ r. ⌜ r ≡ flagOf b ⌝ }
-{
-    if b { 1 } else { 0 }
-}
-
-// The phase that a first beat opens.
-fn opened(hburst: u32, lock: bool) -> u32
-    ensures { λ r. ⌜ Numbers (phaseOpened (burstOf hburst) lock) r ⌝ }
-{
-    let open = signals::pick_number((hburst == 1) & lock, 4, 0);
-    signals::pick_number(hburst == 3, 3, open)
-}
-
-// A ready cycle less, where some are to come.
-fn less(k: u32, ready: bool) -> u32
-    ensures { λ r. ⌜ r ≡ cond ready (k - 1) k ⌝ }
-{
-    if ready & (k != 0) { k - 1 } else { k }
-}
-
-// The phase after a cycle with GRANTED low, where request is the owner's request.
-fn low(n: u32, b: Bus, x: Inputs, request: bool) -> u32
-    requires { ⌜ (b .phase ≤ 5) × (request ≡ high (x .hbusreq) (b .m)) ⌝ }
-    ensures { λ r. ⌜ LowIs n b x r ⌝ }
-{
-    let ready = x.hready == 1;
-    let first = opened(x.hburst, b.hmastlock);
-    let fresh = signals::pick_number(ready & (x.htrans == 2), first, 5);
-    let held = signals::pick_number(request, 4, 0);
-    let counted = less(b.phase, ready);
-    let later = signals::pick_number(b.phase == 4, held, counted);
-    signals::pick_number(b.phase == 5, fresh, later)
-}
-
-// The phase after a cycle, where low is that after one with GRANTED low.
-fn after(n: u32, b: Bus, x: Inputs, low: u32) -> u32
-    requires { ⌜ (b .phase ≤ 5) × LowIs n b x low ⌝ }
-    ensures { λ r. ⌜ Numbers (phaseAfter (stateFrom n b) (seen (stateFrom n b) x)) r ⌝ }
-{
-    let kept = signals::pick_number(x.hready == 1, 5, b.phase);
-    signals::pick_number(b.granted, kept, low)
-}
-
-// DECIDE, where low is the phase after a cycle with GRANTED low, and lock is the owner's lock line.
-fn decide(n: u32, b: Bus, x: Inputs, low: u32, lock: bool) -> bool
-    requires { ⌜ (b .phase ≤ 5) × LowIs n b x low × (lock ≡ high (x .hlock) (b .m)) ⌝ }
-    ensures { λ r. ⌜ r ≡ decides (stateFrom n b) (seen (stateFrom n b) x) ⌝ }
-{
-    let kind = (x.hburst == 3) | ((x.hburst == 1) & b.hmastlock);
-    let waits = (b.phase == 5) & kind & (x.htrans == 2) & !(x.hready == 1);
-    !b.granted & ((low == 0) | (low == 5)) & !(b.hmastlock & lock) & !waits
-}
-
 // The grant after a decision that some master asked for.
 fn winner(n: u32, g: u32, m: u32) -> u32
     requires { ⌜ (n ≤ 16) × (g < n) × (m < 2 ^ n) × (eqb m 0 ≡ false) ⌝ }
     ensures { λ r. ⌜ winnerOf n g m ≡ At r ⌝ }
 {
-    match arbitration::walk::winner(n, g, m) {
+    match walk::winner(n, g, m) {
         Found::At(i) => i,
         Found::Nothing => 0,
     }
 }
 
-// The grant after a cycle in which DECIDE is d.
-fn grant(n: u32, b: Bus, x: Inputs, d: bool) -> u32
-    requires { ⌜ (n ≤ 16) × (b .g < n) × (x .hbusreq < 2 ^ n) ⌝ }
-    ensures { λ r. ⌜ chosen (stateFrom n b) x d ≡ At r ⌝ }
+// What a cycle with GRANTED low chooses: the grant and GRANTED after it, and DECIDE.
+struct Choice {
+    g: u32,
+    granted: u32,
+    decide: u32,
+}
+
+// The choice of a cycle with GRANTED low: a decision where nothing holds the bus, and else all stays as it is.
+fn choose(n: u32, b: Bus, x: Inputs, held: u32) -> Choice
+    requires { ⌜ Due n b x × (b .granted ≡ 0) ⌝ }
+    ensures { λ r. ⌜ Chooses n b x (eqb held 0) (r .g) (r .granted) (r .decide) ⌝ }
 {
-    if d {
+    if held == 0 {
         if x.hbusreq == 0 {
-            0
+            Choice {
+                g: 0,
+                granted: flag(b.m != 0),
+                decide: 1,
+            }
         } else {
-            winner(n, b.g, x.hbusreq)
+            Choice {
+                g: winner(n, b.g, x.hbusreq),
+                granted: 1,
+                decide: 1,
+            }
         }
     } else {
-        b.g
+        Choice {
+            g: b.g,
+            granted: 0,
+            decide: 0,
+        }
     }
 }
 
-// The bus after a cycle in which DECIDE is d, where low is the phase after a cycle with GRANTED low.
-fn move_on(n: u32, b: Bus, x: Inputs, low: u32, d: bool) -> Bus
-    requires { ⌜ WellFormed (stateFrom n b) × (b .phase ≤ 5) × (b .count < mostCycles) × (inputsCheck n x ≡ Good) × LowIs n b x low ⌝ }
-    ensures { λ r. ⌜ (chosen (stateFrom n b) x d ≡ At (r .g)) × (stateFrom n r ≡ moved (stateFrom n b) x d (r .g)) × (r .phase ≤ 5) ⌝ }
+// What a cycle comes to: the bus after it, and DECIDE.
+struct Turn {
+    bus: Bus,
+    decide: u32,
+}
+
+// A cycle with GRANTED low, where request is the owner's request: a decision, unless the owner's lock or burst holds the bus.
+fn decide(n: u32, b: Bus, x: Inputs, request: u32) -> Turn
+    requires { ⌜ Due n b x × (b .granted ≡ 0) × Stands request (high (x .hbusreq) (b .m)) ⌝ }
+    ensures { λ r. ⌜ Moves n b x (r .decide) (r .bus) ⌝ }
 {
-    let next_lock = bit(x.hlock, b.g);
-    let over = b.granted & (x.hready == 1);
-    let kept = signals::pick_flag(over, false, b.granted);
-    Bus {
-        g: grant(n, b, x, d),
-        m: signals::pick_number(over, b.g, b.m),
-        hmastlock: signals::pick_flag(over, next_lock, b.hmastlock),
-        granted: signals::pick_flag(d, !(x.hbusreq == 0) | !(b.m == 0), kept),
-        phase: after(n, b, x, low),
+    let lock = bit(x.hlock, b.m);
+    let course = course::run(n, b, x, request);
+    let held = (b.hmastlock & lock) | course.busy;
+    let choice = choose(n, b, x, held);
+    let bus = Bus {
+        g: choice.g,
+        m: b.m,
+        hmastlock: b.hmastlock,
+        granted: choice.granted,
+        phase: course.phase,
         count: b.count + 1,
+    };
+    Turn {
+        bus,
+        decide: choice.decide,
     }
 }
 
-// What is shown in a cycle in which DECIDE is d, where request is the owner's request.
-fn show(n: u32, b: Bus, x: Inputs, request: bool, d: bool) -> Outputs
-    requires { ⌜ (b .g < 32) × (request ≡ high (x .hbusreq) (b .m)) ⌝ }
-    ensures { λ r. ⌜ r ≡ shown (stateFrom n b) (seen (stateFrom n b) x) d ⌝ }
+// A cycle with GRANTED high: a handover where it is ready, and else a wait.
+fn wait(n: u32, b: Bus, x: Inputs) -> Turn
+    requires { ⌜ Due n b x × (b .granted ≡ 1) ⌝ }
+    ensures { λ r. ⌜ Moves n b x (r .decide) (r .bus) ⌝ }
+{
+    let lock = bit(x.hlock, b.g);
+    let over = x.hready == 1;
+    let bus = Bus {
+        g: b.g,
+        m: signals::pick_number(over, b.g, b.m),
+        hmastlock: signals::pick_number(over, lock, b.hmastlock),
+        granted: 1 - x.hready,
+        phase: signals::pick_number(over, 5, b.phase),
+        count: b.count + 1,
+    };
+    Turn { bus, decide: 0 }
+}
+
+// Any cycle, where request is the owner's request.
+fn cycle(n: u32, b: Bus, x: Inputs, request: u32) -> Turn
+    requires { ⌜ Due n b x × Stands request (high (x .hbusreq) (b .m)) ⌝ }
+    ensures { λ r. ⌜ Moves n b x (r .decide) (r .bus) ⌝ }
+{
+    if b.granted == 0 {
+        decide(n, b, x, request)
+    } else {
+        wait(n, b, x)
+    }
+}
+
+// What is shown in a cycle, where request is the owner's request.
+fn show(n: u32, b: Bus, x: Inputs, request: u32, decide: u32) -> Outputs
+    requires { ⌜ (b .g < 32) × Fit b × Stands request (high (x .hbusreq) (b .m)) × Stands decide (decideOf n b x) ⌝ }
+    ensures { λ r. ⌜ r ≡ shown (stateFrom n b) (seen (stateFrom n b) x) (decideOf n b x) ⌝ }
 {
     Outputs {
         hgrant: mask(b.g),
         hmaster: b.m,
-        hmastlock: flag(b.hmastlock),
-        decide: flag(d),
-        granted: flag(b.granted),
-        busreq: flag(request),
+        hmastlock: b.hmastlock,
+        decide,
+        granted: b.granted,
+        busreq: request,
     }
 }
 
@@ -222,14 +238,12 @@ pub struct Went {
 
 // One cycle that a step takes.
 pub fn advance(n: u32, b: Bus, x: Inputs) -> Went
-    requires { ⌜ WellFormed (stateFrom n b) × (b .phase ≤ 5) × (b .count < mostCycles) × (inputsCheck n x ≡ Good) ⌝ }
-    ensures { λ r. ⌜ (stepOf (stateFrom n b) x ≡ Next (stateFrom n (r .bus)) (r .outputs)) × (r .bus .phase ≤ 5) ⌝ }
+    requires { ⌜ WellFormed (stateFrom n b) × Fit b × (b .count < mostCycles) × (inputsCheck n x ≡ Good) ⌝ }
+    ensures { λ r. ⌜ (stepOf (stateFrom n b) x ≡ Next (stateFrom n (r .bus)) (r .outputs)) × Fit (r .bus) ⌝ }
 {
     let request = bit(x.hbusreq, b.m);
-    let lock = bit(x.hlock, b.m);
-    let low = low(n, b, x, request);
-    let d = decide(n, b, x, low, lock);
-    let bus = move_on(n, b, x, low, d);
-    let outputs = show(n, b, x, request, d);
+    let turn = cycle(n, b, x, request);
+    let bus = turn.bus;
+    let outputs = show(n, b, x, request, turn.decide);
     Went { bus, outputs }
 }

@@ -1,3 +1,3 @@
-pub mod Masks
 pub mod Rules
 pub mod Order
+pub mod Ready

@@ -13,10 +13,10 @@ use lib.Bits.{bitAnd, bitOr}
 use Rattle.rules.specs.declared.Cycle.{Cycle}
 use Rattle.rules.specs.Masks.{high, single}
 use Rattle.rules.proofs.Masks.{high-single}
-use Rattle.rulebook.specs.Columns.{someBelow, isReady, locked, decided, requested, handover}
+use Rattle.rulebook.specs.Columns.{someBelow, isReady, mastlocked, decided, requested, handover}
 use Rattle.rulebook.specs.Rules.{differ, a3, g6, g7, g10}
 use Rattle.charging.specs.Ready.{Fits}
-use Rattle.charging.proofs.Masks.{high-or, some-same, some-common, some-outside}
+use Rattle.keeping.proofs.Masks.{high-or, some-same, some-common, some-outside}
 
 some-beyond : (k a b c l : ℕ) → l < 2 ^ k
     → someBelow k (λ i. high l i && not (high a i || high b i || high c i)) ≡ not (eqb (bitAnd l (bitOr (bitOr a b) c)) l)
@@ -48,7 +48,7 @@ g6-whole p t owner fits e =
     rw s
 
 pub g7-whole : (p t : Cycle) (over : Bool) → Fits p → over ≡ handover p
-    → (over && not (eqb (bitAnd (p .inputs .hlock) (p .outputs .hgrant)) 0) && not (locked t)) ≡ g7 p t
+    → (over && not (eqb (bitAnd (p .inputs .hlock) (p .outputs .hgrant)) 0) && not (mastlocked t)) ≡ g7 p t
 g7-whole p t over fits e =
     rw (e, some-common 16 (p .inputs .hlock) (p .outputs .hgrant) (fits .hlock))
 

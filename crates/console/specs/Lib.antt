@@ -1,2 +1,2 @@
--- What a read came to, and whether a program goes on after a block.
+-- What a read came to, whether a program goes on after a block, and that it ends.
 pub mod Fed

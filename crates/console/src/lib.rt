@@ -4,8 +4,8 @@ use libc::STDIN_FILENO;
 use libc::STDOUT_FILENO;
 use streams::Flow;
 ghost use mathlib.Core.Path.{_≡_};
-ghost use lib.ListN.{take};
-ghost use Rattle.console.specs.Fed.{sizeOf, moreAfter, goesOnAfter};
+ghost use lib.ListN.{take, length};
+ghost use Rattle.console.specs.Fed.{sizeOf, moreAfter, Ended, Filled, goesOnAfter};
 
 // What a read came to: so many bytes and more may come, the last bytes of the input, or an error.
 pub enum Fed {
@@ -15,7 +15,9 @@ pub enum Fed {
 }
 
 // A read that fell short: the input has ended only where one read more says so, and else it could not be read.
-fn ended(n: usize) -> Fed {
+fn ended(n: usize) -> Fed
+    ensures { λ r. ⌜ Ended r n ⌝ }
+{
     let mut one = [0u8; 1];
     let got = libc::read(STDIN_FILENO, &mut one);
     if got == 0 { Fed::Last(n) } else { Fed::Broken }
@@ -44,7 +46,9 @@ pub fn more(f: Fed) -> bool
 }
 
 // Fills the buffer, so that a buffer of whole lines splits no line.
-pub fn read_block(buf: &mut [u8]) -> Fed {
+pub fn read_block(buf: &mut [u8]) -> Fed
+    ensures { λ r. ⌜ Filled r (length (now (buf .exit))) ⌝ }
+{
     let n = io::read_full(STDIN_FILENO, buf);
     if n < buf.len() {
         return ended(n);

@@ -6,10 +6,14 @@ pub mod Fields
 pub mod Limits
 pub mod Reading
 pub mod Lines
+pub mod Behind
 pub mod Headers
+pub mod Given
 pub mod Files
 pub mod Report
 pub mod Answers
 pub mod Ends
 pub mod Buffers
 pub mod Promises
+pub mod RoundTrips
+pub mod Refused

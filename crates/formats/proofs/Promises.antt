@@ -108,7 +108,7 @@ header-shapes =
     }
 
 pub printed-as-text : promise.PrintedAsText
-unfolding bytes hexChar decimalBefore breachLine endLine refusedLine
+unfolding bytes hexChar decimalBefore header breachLine endLine refusedLine
 printed-as-text = record { rule-names = refl; lines = refl }
 
 stimulus-file : (s : List ℕ) → readStimulusFile s ≡ readFile Stim stimulus s

@@ -9,13 +9,14 @@
 --   written-reads   == a written line reads back
 --   read-writes     == a line that was read writes back as the bytes that stood there, and is valid
 --   reads-end, end-read, end-range == there is no more line exactly at the end of the input, once n is tested
+--   cut-refused     == a line that is cut is refused by 3
 --   unread-refused  == a line with a character that is no hex digit is refused by 4
 use Prim.Native.Nat.{ℕ, _+_, _-_, _≤_, _<_}
 use mathlib.Core.Path.{_≡_, refl, sym, _∙_, ap}
 use mathlib.Core.Bool.{Bool, true, false, cond, true≢false, false≢true}
 use mathlib.Core.List.{List, _++_}
 use native.Mathlib.Omega.{arith}
-use borrow.Author.Tests.{eqb-true, le-ltb, eq-eqb, ne-eqb}
+use borrow.Author.Tests.{eqb-true, lt-ltb, le-ltb, eq-eqb, ne-eqb}
 use lib.Dec.{eqb}
 use lib.ListN.{length, take, drop, length-append}
 use Rattle.rules.specs.declared.Refusal.the-variants as refusal
@@ -205,6 +206,16 @@ module _ {A : Type 0} (F : Format A) (n : ℕ) where
       (λ e. absurd (true≢false (ap isMore e)))
       (λ w e. absurd (checked-more (F .check n (F .at s p)) (F .at s p) (p + size F) e)))
       (λ ok e. absurd (true≢false (ap isMore e)))
+
+  pub cut-refused : (s : List ℕ) (p : ℕ) → InRange n → p < length s → length s < p + size F → reading s p ≡ refused refusal.Shape
+  unfolding reading place
+  cut-refused s p range some short =
+      simp (
+        range-ok n range,
+        le-ltb (length s) p (omega arith),
+        ne-eqb p (length s) (λ e. omega arith),
+        lt-ltb (length s - p) (size F) (omega arith),
+      )
 
   pub unread-refused : (s : List ℕ) (p : ℕ) → InRange n → Whole (F .fields) s p → Unread (F .fields) s p
       → reading s p ≡ refused refusal.Value

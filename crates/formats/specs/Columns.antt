@@ -17,7 +17,7 @@ pub record Column : Type 0 where
 abbrev column : String → ℕ → ℕ → Column
 column name digits bits = record { name = name; digits = digits; bits = bits }
 
--- "A stimulus line has HBUSREQ and HLOCK (four hex digits, master i is bit i), HREADY, HTRANS, HBURST."
+-- "A stimulus line has HBUSREQ and HLOCK (four hex digits, master i is bit i), HREADY, HTRANS, HBURST: 16 bytes."
 abbrev pub inputColumns : List Column
 inputColumns =
     column "HBUSREQ" 4 16
@@ -27,7 +27,7 @@ inputColumns =
     ∷ column "HBURST" 1 3
     ∷ []
 
--- "A trace line adds HGRANT (four hex digits), HMASTER (one hex digit), HMASTLOCK, DECIDE, GRANTED, BUSREQ."
+-- "A trace line adds HGRANT (four hex digits), HMASTER (one hex digit), HMASTLOCK, DECIDE, GRANTED, BUSREQ: 31 bytes."
 abbrev pub outputColumns : List Column
 outputColumns =
     column "HGRANT" 4 16

@@ -17,7 +17,7 @@ pub record Field : Type 0 where
   pub digits : ℕ
   pub after : ℕ
 
--- "Tabs part the fields; LF ends a line."
+-- "Tabs part the fields; LF ends a line"
 abbrev pub fields : List Column → List Field
 fields [] = []
 fields (c ∷ []) = record { digits = c .digits; after = lf } ∷ []

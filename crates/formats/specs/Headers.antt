@@ -21,7 +21,7 @@ use Rattle.formats.specs.declared.Written.{Written}
 use Rattle.formats.specs.Digits.{tab, lf, decimal}
 use Rattle.formats.specs.Lines.{fitted, forMasters, left}
 
--- "stim\t1\t" and "trace\t1\t"
+-- "the bytes `stim` or `trace`, tab, `1`, tab"
 abbrev pub prefix : Word → List ℕ
 prefix Stim = 115 ∷ 116 ∷ 105 ∷ 109 ∷ tab ∷ 49 ∷ tab ∷ []
 prefix Trace = 116 ∷ 114 ∷ 97 ∷ 99 ∷ 101 ∷ tab ∷ 49 ∷ tab ∷ []

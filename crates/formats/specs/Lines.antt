@@ -2,6 +2,10 @@
 -- "Reading a line: 1, 3, 4, 5, 6, 7. Writing: 1, 4, 5, 6, 7, 9." Each test is of the whole line.
 --
 --   stimulusFields, traceFields  == the fields of the two lines, of 16 and 31 bytes
+--   place fs s p                 == what stands at the position p: no more lines, a whole line of the fields fs, or neither
+--   lineCheck n c                == the first of 4, 5, 6, 7 that applies to a line
+--   stimulusLine x, traceLine c  == the text of a line
+--   fitted c size room           == the answer of writing, after its tests; left w bytes buffer == the buffer after that answer
 --   readStimulusOf, readTraceOf  == the answer of reading a line at a position
 --   writeStimulusOf, writeTraceOf == the answer of writing one into a buffer of some length
 --   stimulusWritten, traceWritten == the buffer afterwards: the line and the rest untouched, or all unchanged

@@ -97,7 +97,7 @@ ReadTraceLineWrites =
     (n : ℕ) (s : List ℕ) (p : ℕ) (c : Cycle) (next : ℕ) → readTraceOf n s p ≡ trace.Line c next
     → InRange n × ValidCycle n c × (next ≡ p + 31) × (traceLine c ≡ take 31 (drop p s))
 
--- "Reading a line at a position equal to the input's length answers "no more lines", once n is tested." No other reading does.
+-- "Reading a line at a position equal to the input's length answers "no more lines", once n is tested; that is no refusal." No other reading does.
 pub record NoMoreAtTheEnd : Type 0 where
   pub stimulus-line : (n : ℕ) (s : List ℕ) → InRange n → readStimulusOf n s (length s) ≡ stimulus.NoMore
   pub trace-line : (n : ℕ) (s : List ℕ) → InRange n → readTraceOf n s (length s) ≡ trace.NoMore
@@ -208,7 +208,7 @@ pub record OneLine (l : List ℕ) : Type 0 where
   pub ends : l ≡ body ++ (lf ∷ [])
   pub plain : Each (λ b. b ≡ lf → ⊥) body
 
--- "LF ends a line."
+-- "LF ends a line"
 pub record LinesEnd : Type 0 where
   pub header-line : (w : Word) (n : ℕ) → OneLine (header w n)
   pub stimulus-line : (x : Inputs) → OneLine (stimulusLine x)
@@ -217,7 +217,7 @@ pub record LinesEnd : Type 0 where
   pub end-line : (cycles breaches : ℕ) → OneLine (endLine cycles breaches)
   pub refused-line : (line : ℕ) (r : Refusal) → OneLine (refusedLine line r)
 
--- Two equal lines of the report say the same; "the refusal numbers" differ.
+-- Two equal lines of the report say the same; the refusal numbers differ.
 pub record ReportTells : Type 0 where
   pub breach-line : (t u : ℕ) (q r : Rule) → t < 10 ^ 10 → u < 10 ^ 10
       → breachLine t q ≡ breachLine u r → (t ≡ u) × (q ≡ r)

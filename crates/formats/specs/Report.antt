@@ -67,22 +67,22 @@ indexOf G12 = 12
 abbrev pub ruleName : Rule → List ℕ
 ruleName r = letterOf r ∷ decimal (indexOf r)
 
--- "The report has one line a breach, `cycle`, tab, rule name."
+-- "The report has one line a breach, `cycle`, tab, rule name"
 unfoldable pub breachLine : ℕ → Rule → List ℕ
 breachLine t r = decimal t ++ (tab ∷ (ruleName r ++ (lf ∷ [])))
 
--- "end\t" and "refused\t"
+-- `end`, tab, and `refused`, tab
 abbrev pub endWord : List ℕ
 endWord = 101 ∷ 110 ∷ 100 ∷ tab ∷ []
 
 abbrev pub refusedWord : List ℕ
 refusedWord = 114 ∷ 101 ∷ 102 ∷ 117 ∷ 115 ∷ 101 ∷ 100 ∷ tab ∷ []
 
--- "Then `end`, tab, cycles, tab, breaches."
+-- "then `end`, tab, cycles, tab, breaches."
 unfoldable pub endLine : ℕ → ℕ → List ℕ
 endLine cycles breaches = endWord ++ (decimal cycles ++ (tab ∷ (decimal breaches ++ (lf ∷ []))))
 
--- "On a refusal the programs write `refused`, tab, line number (header is 1), tab, refusal number, LF."
+-- "On a refusal the programs write `refused`, tab, line number (header is 1), tab, refusal number, LF"
 unfoldable pub refusedLine : ℕ → Refusal → List ℕ
 refusedLine line r = refusedWord ++ (decimal line ++ (tab ∷ (decimal (numberOf r) ++ (lf ∷ []))))
 

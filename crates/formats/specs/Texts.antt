@@ -4,7 +4,7 @@
 --   numbers           == what may stand after a header's word and version, and the refusal that it gives, or 0
 --   heads             == whole headers of the word `trace`, likewise
 --   names             == the names of the rules, in the order of the report
---   printed           == lines that the page prints
+--   printed           == headers and lines, and the text of each
 use Prim.Native.Nat.{ℕ}
 use Prim.Native.Char.{code}
 use Prim.Native.String.{String, [] as empty, _∷_ as _followed_}
@@ -12,6 +12,8 @@ use mathlib.Core.List.{List, [], _∷_}
 use Rattle.rules.specs.declared.Refusal.the-variants as refusal
 use Rattle.rules.specs.declared.Cycle.{Cycle}
 use Rattle.rulebook.specs.declared.Rule.the-variants.{G6, G9}
+use Rattle.formats.specs.declared.Word.the-variants.{Stim, Trace}
+use Rattle.formats.specs.Headers.{header}
 use Rattle.formats.specs.Lines.{stimulusLine, traceLine}
 use Rattle.formats.specs.Report.{breachLine, endLine, refusedLine}
 
@@ -97,7 +99,9 @@ digits =
 
 abbrev pub printed : List Print
 printed =
-    print (stimulusLine (third .inputs)) "0006\t0000\t1\t2\t3\n"
+    print (header Stim 3) "stim\t1\t3\n"
+    ∷ print (header Trace 16) "trace\t1\t16\n"
+    ∷ print (stimulusLine (third .inputs)) "0006\t0000\t1\t2\t3\n"
     ∷ print (traceLine third) "0006\t0000\t1\t2\t3\t0002\t1\t0\t0\t0\t1\n"
     ∷ print (traceLine digits) "89ab\tcdef\t1\t2\t3\t4567\tf\t1\t0\t1\t0\n"
     ∷ print (breachLine 9 G6) "9\tG6\n"

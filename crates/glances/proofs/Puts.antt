@@ -41,7 +41,7 @@ pub outputs-put : (g : ℕ) (o : Outputs) (b c t : List ℕ) (v w : ℕ) → 16 
     → w ≡ numberLow 8 (flagsOf o) 0 → c ≡ sets b 0 (lowFirst 8 v) → t ≡ sets (rest 8 c) 0 (lowFirst 8 w) → withTail 8 c t ≡ sets b 0 (outputsBytes o)
 outputs-put g o b c t v w room d ev ew ec et =
     let owner : lowFirst 8 v ≡ ownerBytes g (o .hmaster) = ap (lowFirst 8) ev ∙ owner-bytes g (o .hmaster) in
-    let bytes : Bytes (flagsOf o) = flags-bytes (o .hmastlock) (o .decide) (o .granted) (o .busreq) (d .lock) (d .decide) (d .granted) (d .request) in
+    let bytes : Bytes (flagsOf o) = flags-bytes (o .hmastlock) (o .decide) (o .granted) (o .busreq) (omega (arith, d .lock)) (omega (arith, d .decide)) (omega (arith, d .granted)) (omega (arith, d .request)) in
     let flags : lowFirst 8 w ≡ flagsOf o = ap (lowFirst 8) ew ∙ again-bytes 8 (flagsOf o) bytes refl in
     put-on 8 b c t (ownerBytes g (o .hmaster)) (flagsOf o) (ec ∙ ap (sets b 0) owner) refl (omega arith) (et ∙ ap (sets (rest 8 c) 0) flags)
     ∙ ap (sets b 0) (joined-texts g o d)

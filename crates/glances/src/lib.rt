@@ -1,8 +1,10 @@
-// Lines at a glance. A line that is surely good is read with few tests; any other is left to the readers of `lines`.
+// Lines at a glance: whether a line is good, and its columns if so, with few tests. Which refusal another line gets the readers of
+// `lines` say.
 mod codes;
 mod put;
 mod table;
 
+pub use put::put_outputs;
 pub use put::put_trace;
 use rules::Cycle;
 use rules::Inputs;
@@ -13,12 +15,10 @@ ghost use mathlib.Core.Bool.{true};
 ghost use Prim.Native.Nat.{_≤_};
 ghost use lib.ListN.{length};
 ghost use Rattle.rules.specs.State.{mastersOk};
-ghost use Rattle.formats.specs.declared.StimulusRead.the-variants.{Line as StimulusLine};
-ghost use Rattle.formats.specs.declared.TraceRead.the-variants.{Line as TraceLine};
-ghost use Rattle.formats.specs.Lines.{readStimulusOf, readTraceOf};
 ghost use Rattle.glances.specs.Glances.{Digits};
+ghost use Rattle.glances.specs.Sees.{SeesStimulus, SeesTrace};
 
-// A stimulus line: whether it is surely good, and its columns if so.
+// A stimulus line: whether it is good, and its columns if so.
 pub struct Stimulus {
     pub good: bool,
     pub inputs: Inputs,
@@ -27,7 +27,7 @@ pub struct Stimulus {
 // The stimulus line that s begins with.
 pub fn see_stimulus(digits: &[u32], n: u32, s: &[u8]) -> Stimulus
     requires { ⌜ Digits (now digits) × (mastersOk n ≡ true) × (16 ≤ length (now s)) ⌝ }
-    ensures { λ r. ⌜ (r .good ≡ true → readStimulusOf n (now (s .entry)) 0 ≡ StimulusLine (r .inputs) 16) ⌝ }
+    ensures { λ r. ⌜ SeesStimulus n (now (s .entry)) (r .good) (r .inputs) ⌝ }
 {
     let hbusreq = table::mask_at(digits, s, 0);
     let hlock = table::mask_at(digits, s, 5);
@@ -47,7 +47,7 @@ pub fn see_stimulus(digits: &[u32], n: u32, s: &[u8]) -> Stimulus
     }
 }
 
-// A trace line: whether it is surely good, and its columns if so.
+// A trace line: whether it is good, and its columns if so.
 pub struct Trace {
     pub good: bool,
     pub cycle: Cycle,
@@ -56,13 +56,13 @@ pub struct Trace {
 // The trace line that s begins with.
 pub fn see_trace(digits: &[u32], n: u32, s: &[u8]) -> Trace
     requires { ⌜ Digits (now digits) × (mastersOk n ≡ true) × (31 ≤ length (now s)) ⌝ }
-    ensures { λ r. ⌜ (r .good ≡ true → readTraceOf n (now (s .entry)) 0 ≡ TraceLine (r .cycle) 31) ⌝ }
+    ensures { λ r. ⌜ SeesTrace n (now (s .entry)) (r .good) (r .cycle) ⌝ }
 {
     let hbusreq = table::mask_at(digits, s, 0);
     let hlock = table::mask_at(digits, s, 5);
     let codes = codes::codes_at(s, 9);
     let hgrant = table::mask_at(digits, s, 16);
-    let hmaster = table::digit_at(digits, s, 21);
+    let hmaster = table::digit_at(digits, 0, s, 21);
     let flags = codes::flags_at(s);
     let absent = ((hbusreq | hlock | hgrant) >> n) as u64;
     let apart = codes::apart(s[4]) | codes::apart(s[20]) | codes::apart(s[22]);

@@ -22,7 +22,7 @@ fn owner_text(g: u32, hmaster: u32) -> u64
 }
 
 // Writes the columns of the outputs, whose HGRANT has the single bit g, from the tab before them on.
-fn put_outputs(g: u32, o: Outputs, out: &mut [u8])
+pub fn put_outputs(g: u32, o: Outputs, out: &mut [u8])
     requires { ⌜ (16 ≤ length (now out)) × Driven g o ⌝ }
     ensures { λ _. ⌜ now (out .exit) ≡ sets (now (out .entry)) 0 (outputsBytes o) ⌝ }
 {

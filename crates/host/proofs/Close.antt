@@ -1,92 +1,199 @@
 -- The ends of the two calls, over plain values: S and L are the lent buffers, S' and L' the same at exit.
 --
---   bytes-known, bytes-unknown == the ends of reading a state
---   answer-next, answer-refused, lent-known, lent-unknown == the ends of a step of what was read
---   state-stored    == the twelve stores of a state
---   line-stored     == what the writer of lines leaves, once its tests have passed
---   short-state, short-line, step-refused, step-taken == the ends of a step
+--   unsound, sound  == what the bytes lead to: 10, or the step of the state that they write
+--   formed, is-sound, has-room == of bytes that passed the tests
+--   refusal-10, refusal-8, refusal-none, refusal-of == the ends of finding the number
+--   next-formed, took == what a cycle that was taken leaves
+--   is-good         == a stimulus that passed
+--   step-short-state, step-short-line, step-unready, step-invalid, step-taken == the ends of a step
 --   ready-sound     == a reset that is not refused gives a well-formed state
---   reset-short, reset-refused, reset-ready           == the ends of a reset
+--   reset-short, reset-refused, reset-ready == the ends of a reset
 use Prim.Native.Nat.{ℕ, _≤_, _<_}
-use mathlib.Core.Path.{_≡_, sym, _∙_}
-use mathlib.Core.Bool.{Bool, true, false}
+use mathlib.Core.Path.{_≡_, refl, sym, _∙_}
+use mathlib.Core.Bool.{Bool, true, false, not, _&&_, false≢true, true≢false}
 use mathlib.Core.List.{List}
-use borrow.Author.Tests.{lt-ltb, le-ltb}
+use native.Mathlib.Omega.{arith}
+use borrow.Author.Tests.{ltb-true, ltb-false, not-true, not-false}
+use lib.Dec.{ltb}
 use lib.ListN.{length}
 use lib.Seq.{sets, sets-eq}
 use Rattle.rules.specs.declared.Refusal.{Refusal}
-use Rattle.rules.specs.declared.Refusal.the-variants.{State as StateRefusal}
-use Rattle.rules.specs.declared.Check.the-variants.{Good}
+use Rattle.rules.specs.declared.Refusal.the-variants as refusal
+use Rattle.rules.specs.declared.Check.{Check}
+use Rattle.rules.specs.declared.Check.the-variants.{Good, Bad}
 use Rattle.rules.specs.declared.State.{State}
 use Rattle.rules.specs.declared.Inputs.{Inputs}
 use Rattle.rules.specs.declared.Outputs.{Outputs}
-use Rattle.rules.specs.declared.Cycle.{Cycle}
-use Rattle.rules.specs.declared.Answer.{Answer}
-use Rattle.rules.specs.declared.Answer.the-variants.{Next, Refused as NotNext}
+use Rattle.rules.specs.declared.Answer.the-variants.{Next}
 use Rattle.rules.specs.declared.Start.{Start}
 use Rattle.rules.specs.declared.Start.the-variants.{Ready, Refused as Unready}
+use Rattle.rules.specs.Codes.{mostCycles}
 use Rattle.rules.specs.Refusals.{numberOf}
-use Rattle.rules.specs.Valid.{cycleCheck}
-use Rattle.rules.specs.State.{mastersOk, resetOf, WellFormed}
+use Rattle.rules.specs.Valid.{inputsCheck}
+use Rattle.rules.specs.State.{resetOf, wellFormed, WellFormed}
 use Rattle.rules.specs.Step.{stepOf}
-use Rattle.rules.proofs.WellFormed.{reset-is, reset-sound}
-use Rattle.formats.specs.Lines.{writeTraceOf, traceWritten}
-use Rattle.hosting.specs.declared.Lent.{Lent}
-use Rattle.hosting.specs.declared.Lent.the-variants.{Known, Unknown}
+use Rattle.rules.proofs.Choice.{and-left, and-right}
+use Rattle.rules.proofs.WellFormed.{facts-of, test-of, reset-is, reset-sound}
+use Rattle.rules.proofs.Total.{never-refused}
+use Rattle.rules.proofs.Taken.{taken}
+use Rattle.rules.proofs.Kept.{kept}
+use Rattle.formats.specs.Lines.{traceLine}
+use Rattle.arbitration.proofs.Close.{malformed, full, bad}
+use Rattle.buses.specs.Buses.{stateFrom}
+use Rattle.hosting.specs.declared.Lent.the-variants.{Known}
 use Rattle.hosting.specs.declared.Outcome.{Outcome}
-use Rattle.hosting.specs.declared.Outcome.the-variants.{Taken, Refused}
-use Rattle.hosting.specs.Bytes.{stateBytes, isState, stateIn, bytesState}
-use Rattle.hosting.specs.Calls.{ofAnswer, ofLent, stateStored, lineStored, hostStep, hostReset, StepCall, ResetCall}
-use Rattle.hosting.proofs.Calls.{long-enough}
+use Rattle.hosting.specs.declared.Outcome.the-variants.{Refused}
+use Rattle.hosting.specs.Bytes.{isState, stateIn, bytesState}
+use Rattle.hosting.specs.Calls.{ofAnswer, ofLent, hostNumber, hostState, hostLine, hostStep, hostReset, stateStored, lineStored, StepCall, ResetCall}
+use Rattle.hosting.proofs.Calls.{short-state, short-line, short-reset, plain-reset, long-enough, refused-unchanged}
+use Rattle.octets.specs.declared.Held.{Held}
+use Rattle.octets.specs.Octets.{soundIn, Holds}
+use Rattle.host.specs.Tests.{passes}
 
-pub bytes-known : (b : List ℕ) (t : Bool) (s : State) → t ≡ isState b → t ≡ true → s ≡ stateIn b → Known s ≡ bytesState b
-unfolding bytesState
-bytes-known b t s e h f = let u : isState b ≡ true = cc in rw (u, f)
+-- a refusal's number is not 0
+some : (r : Refusal) → 1 ≤ numberOf r
+some refusal.Masters = omega arith
+some refusal.Header = omega arith
+some refusal.Shape = omega arith
+some refusal.Value = omega arith
+some refusal.NotBuilt = omega arith
+some refusal.Absent = omega arith
+some refusal.Owner = omega arith
+some refusal.Full = omega arith
+some refusal.Short = omega arith
+some refusal.State = omega arith
+some refusal.Nobody = omega arith
 
-pub bytes-unknown : (b : List ℕ) (t : Bool) → t ≡ isState b → t ≡ false → Unknown ≡ bytesState b
-unfolding bytesState
-bytes-unknown b t e h = let u : isState b ≡ false = cc in rw u
+pub step-short-state : (S L : List ℕ) (x : Inputs) → length S < 12 → StepCall x S L 9 S L
+step-short-state S L x h = let e = short-state S L x h in (rw e, rw e, rw e)
 
--- the two ends of a step, and of the bytes
-pub answer-next : (a : Answer) (x : Inputs) (t : State) (o : Outputs) (s : State) → a ≡ stepOf s x → a ≡ Next t o → Taken t (record { inputs = x; outputs = o }) ≡ ofAnswer (stepOf s x) x
-answer-next a x t o s e f = let u : stepOf s x ≡ Next t o = cc in rw u
+pub step-short-line : (S L : List ℕ) (x : Inputs) → 12 ≤ length S → length L < 31 → StepCall x S L 9 S L
+step-short-line S L x h k = let e = short-line S L x h k in (rw e, rw e, rw e)
 
-pub answer-refused : (a : Answer) (x : Inputs) (r : Refusal) (t : State) (s : State) → a ≡ stepOf s x → a ≡ NotNext r t → Refused r ≡ ofAnswer (stepOf s x) x
-answer-refused a x r t s e f = let u : stepOf s x ≡ NotNext r t = cc in rw u
+-- bytes that no well-formed state has
+unsound : (S : List ℕ) (x : Inputs) → soundIn S ≡ false → ofLent (bytesState S) x ≡ Refused refusal.State
+unfolding soundIn bytesState ofLent
+unsound S x e = go (isState S) refl
+  where
+    go : (t : Bool) → isState S ≡ t → ofLent (bytesState S) x ≡ Refused refusal.State
+    go true p =
+        let f : wellFormed (stateIn S) ≡ false = rw p at e in
+        let q = malformed (stateIn S) x false (sym f) refl in
+        rw (p, ← q)
+    go false p = rw p
 
-pub lent-known : (l k : Lent) (x : Inputs) (s : State) (o : Outcome) → l ≡ k → l ≡ Known s → o ≡ ofAnswer (stepOf s x) x → o ≡ ofLent k x
-unfolding ofLent
-lent-known l k x s o e f h = let u : k ≡ Known s = cc in rw u h
+-- bytes that a well-formed state has
+record Sound (S : List ℕ) : Type 0 where
+  known : bytesState S ≡ Known (stateIn S)
+  formed : WellFormed (stateIn S)
 
-pub lent-unknown : (l k : Lent) (x : Inputs) → l ≡ k → l ≡ Unknown → Refused StateRefusal ≡ ofLent k x
-unfolding ofLent
-lent-unknown l k x e f = let u : k ≡ Unknown = cc in rw u
+sound : (S : List ℕ) → soundIn S ≡ true → Sound S
+unfolding soundIn bytesState
+sound S e =
+    let p = and-left (isState S) (wellFormed (stateIn S)) e in
+    record { known = rw p; formed = facts-of (stateIn S) (and-right (isState S) (wellFormed (stateIn S)) e) }
 
-pub state-stored : (s : State) (b b' : List ℕ) → 12 ≤ length b → b' ≡ sets b 0 (stateBytes s) → b' ≡ stateStored s b
-unfolding stateStored stateBytes
-state-stored s b b' h e = e ∙ sets-eq (stateBytes s) b 0 h
+-- h is what is seen of S
+module _ (S : List ℕ) (h : Held) (w : Holds S h) where
+  abbrev here : State
+  here = stateFrom (h .n) (h .bus)
 
-pub line-stored : (n : ℕ) (c : Cycle) (b b' : List ℕ) → mastersOk n ≡ true → cycleCheck n c ≡ Good → 31 ≤ length b → b' ≡ traceWritten n c b → b' ≡ lineStored c b
-unfolding traceWritten writeTraceOf lineStored
-line-stored n c b b' masters good h e = e ∙ simp (masters, good, le-ltb (length b) 31 h)
+  pub formed : h .sound ≡ true → WellFormed here
+  formed e = rw (w .known e) (sound S (sym (w .exact) ∙ e) .formed)
 
-pub short-state : (S L : List ℕ) (x : Inputs) → length S < 12 → StepCall x S L 9 S L
-unfolding hostStep
-short-state S L x h = let e = lt-ltb (length S) 12 h in (simp e, simp e, simp e)
+  module _ (ready : not (h .sound && ltb (h .bus .count) 1000000) ≡ false) where
+    both : (h .sound && ltb (h .bus .count) 1000000) ≡ true
+    both = not-false (h .sound && ltb (h .bus .count) 1000000) ready
 
-pub short-line : (S L : List ℕ) (x : Inputs) → 12 ≤ length S → length L < 31 → StepCall x S L 9 S L
-unfolding hostStep
-short-line S L x h k = let e = le-ltb (length S) 12 h in let f = lt-ltb (length L) 31 k in (simp (e, f), simp (e, f), simp (e, f))
+    pub is-sound : h .sound ≡ true
+    is-sound = and-left (h .sound) (ltb (h .bus .count) 1000000) both
 
-module _ (S L : List ℕ) (x : Inputs) (room : 12 ≤ length S) (space : 31 ≤ length L) (o : Outcome) (is : o ≡ ofLent (bytesState S) x) where
-  whole : hostStep S L x ≡ o
-  whole = long-enough S L x room space ∙ sym is
+    pub has-room : h .bus .count < mostCycles
+    has-room = ltb-true (h .bus .count) 1000000 (and-right (h .sound) (ltb (h .bus .count) 1000000) both)
 
-  pub step-refused : (r : Refusal) (k : ℕ) → o ≡ Refused r → k ≡ numberOf r → StepCall x S L k S L
-  step-refused r k e n = let u = whole ∙ e in (rw u n, rw u, rw u)
+  module _ (x : Inputs) where
+    abbrev outcome : Outcome
+    outcome = ofLent (bytesState S) x
 
-  pub step-taken : (t : State) (c : Cycle) (S' L' : List ℕ) → o ≡ Taken t c → S' ≡ stateStored t S → L' ≡ lineStored c L → StepCall x S L 0 S' L'
-  step-taken t c S' L' e p q = let u = whole ∙ e in (rw u, rw u p, rw u q)
+    stepped : h .sound ≡ true → outcome ≡ ofAnswer (stepOf here x) x
+    unfolding ofLent
+    stepped e = rw (sound S (sym (w .exact) ∙ e) .known, w .known e)
+
+    pub refusal-10 : not (h .sound) ≡ true → 10 ≡ hostNumber outcome
+    refusal-10 e = rw (unsound S x (sym (w .exact) ∙ not-true (h .sound) e))
+
+    pub refusal-8 : not (h .sound) ≡ false → mostCycles ≤ h .bus .count → 8 ≡ hostNumber outcome
+    refusal-8 e f =
+        let p = not-false (h .sound) e in
+        let q = full here x true (sym (test-of here (formed p))) refl f in
+        rw (stepped p, ← q)
+
+    -- c is the check of the inputs
+    module _ (p : h .sound ≡ true) (room : h .bus .count < mostCycles) (c : Check) (e : c ≡ inputsCheck (h .n) x) where
+      pub refusal-none : c ≡ Good → 0 ≡ hostNumber outcome
+      refusal-none f =
+          let good : inputsCheck (h .n) x ≡ Good = cc in
+          let n = never-refused here x (formed p) room good in
+          rw (stepped p, n .1)
+
+      pub refusal-of : (r : Refusal) (k : ℕ) → c ≡ Bad r → k ≡ numberOf r → k ≡ hostNumber outcome
+      refusal-of r k f g = let q = bad here x c r (formed p) room e f in rw (stepped p, ← q) g
+
+    -- a call that is not taken answers another number than 0
+    unready : not (h .sound && ltb (h .bus .count) 1000000) ≡ true → 1 ≤ hostNumber outcome
+    unready e = go (h .sound) refl
+      where
+        go : (t : Bool) → h .sound ≡ t → 1 ≤ hostNumber outcome
+        go true p =
+            let f : not (true && ltb (h .bus .count) 1000000) ≡ true = rw p at e in
+            let q = refusal-8 (rw p) (ltb-false (h .bus .count) 1000000 (not-true (ltb (h .bus .count) 1000000) f)) in
+            omega (arith, q)
+        go false p = let q = refusal-10 (rw p) in omega (arith, q)
+
+    invalid : h .sound ≡ true → h .bus .count < mostCycles → passes (inputsCheck (h .n) x) ≡ false → 1 ≤ hostNumber outcome
+    invalid p room e = go (inputsCheck (h .n) x) refl
+      where
+        go : (c : Check) → inputsCheck (h .n) x ≡ c → 1 ≤ hostNumber outcome
+        go Good q = absurd (true≢false (rw q at e))
+        go (Bad r) q = let k = refusal-of p room (Bad r) (sym q) r (numberOf r) refl refl in omega (arith, some r, k)
+
+    -- both buffers are long enough
+    module _ (L : List ℕ) (room : 12 ≤ length S) (space : 31 ≤ length L) where
+      whole : hostStep S L x ≡ outcome
+      whole = long-enough S L x room space
+
+      unchanged : (r : ℕ) → r ≡ hostNumber outcome → 1 ≤ hostNumber outcome → StepCall x S L r S L
+      unchanged r e k = let u = refused-unchanged outcome S L k in rw whole (e, sym (u .0), sym (u .1))
+
+      pub step-unready : (r : ℕ) → not (h .sound && ltb (h .bus .count) 1000000) ≡ true → r ≡ hostNumber outcome → StepCall x S L r S L
+      step-unready r e q = unchanged r q (unready e)
+
+      module _ (ready : not (h .sound && ltb (h .bus .count) 1000000) ≡ false) where
+        pub step-invalid : (v : Bool) (r : ℕ) → v ≡ passes (inputsCheck (h .n) x) → not v ≡ true → r ≡ hostNumber outcome → StepCall x S L r S L
+        step-invalid v r e f q = unchanged r q (invalid (is-sound ready) (has-room ready) (sym e ∙ not-true v f))
+
+        pub step-taken : (S' L' : List ℕ) → inputsCheck (h .n) x ≡ Good
+            → (S' ≡ hostState (ofAnswer (stepOf here x) x) S) × (L' ≡ hostLine (ofAnswer (stepOf here x) x) L) → StepCall x S L 0 S' L'
+        step-taken S' L' good left =
+            let p = is-sound ready in
+            let k = refusal-none p (has-room ready) Good (sym good) refl in
+            rw whole (k, rw (stepped p) (left .0), rw (stepped p) (left .1))
+
+-- what a cycle that was taken leaves
+module _ (s t : State) (x : Inputs) (o : Outputs) (e : stepOf s x ≡ Next t o) where
+  pub next-formed : WellFormed t
+  next-formed = kept s x t o (taken s x t o e)
+
+  pub took : (S L S' L' : List ℕ) → 31 ≤ length L → S' ≡ stateStored t S → L' ≡ sets L 0 (traceLine (record { inputs = x; outputs = o }))
+      → (S' ≡ hostState (ofAnswer (stepOf s x) x) S) × (L' ≡ hostLine (ofAnswer (stepOf s x) x) L)
+  unfolding lineStored
+  took S L S' L' space es el =
+      let line = traceLine (record { inputs = x; outputs = o }) in
+      (rw e es, rw e (el ∙ sets-eq line L 0 space))
+
+pub is-good : (c : Check) (v : Bool) → v ≡ passes c → not v ≡ false → c ≡ Good
+is-good Good v e f = refl
+is-good (Bad r) v e f = absurd (false≢true (sym e ∙ not-false v f))
 
 pub ready-sound : (n : ℕ) (a : Start) (s : State) → a ≡ resetOf n → a ≡ Ready s → WellFormed s
 ready-sound n a s e f =
@@ -94,16 +201,15 @@ ready-sound n a s e f =
     rw (b .is) (reset-sound n (b .few) (b .many))
 
 pub reset-short : (n : ℕ) (S : List ℕ) → length S < 12 → ResetCall n S 9 S
-unfolding hostReset
-reset-short n S h = let e = lt-ltb (length S) 12 h in (simp e, simp e)
+reset-short n S h = let e = short-reset n S h in (rw e, rw e)
 
 module _ (n : ℕ) (S : List ℕ) (room : 12 ≤ length S) (a : Start) (is : a ≡ resetOf n) where
   begun : hostReset n S ≡ a
-  unfolding hostReset
-  begun = simp (le-ltb (length S) 12 room) (sym is)
+  begun = plain-reset n S room ∙ sym is
 
   pub reset-refused : (r : Refusal) (k : ℕ) → a ≡ Unready r → k ≡ numberOf r → ResetCall n S k S
   reset-refused r k e m = let u = begun ∙ e in (rw u m, rw u)
 
-  pub reset-ready : (s : State) (S' : List ℕ) → a ≡ Ready s → S' ≡ stateStored s S → ResetCall n S 0 S'
-  reset-ready s S' e p = let u = begun ∙ e in (rw u, rw u p)
+  -- t is the same state, by its numbers
+  pub reset-ready : (s t : State) (S' : List ℕ) → a ≡ Ready s → t ≡ s → S' ≡ stateStored t S → ResetCall n S 0 S'
+  reset-ready s t S' e f p = let u = begun ∙ e in (rw u, rw (u, ← f) p)

@@ -1,2 +1,4 @@
+-- Laws of this crate's proofs.
+pub mod Inputs
 pub mod Close
 pub mod Unique

@@ -1,54 +1,72 @@
 // The step and the reset, exported to a C simulator. include/espigambre.h declares them for C.
-mod octets;
-
-use hosting::Lent;
-use hosting::Outcome;
-use rules::Answer;
+use buses::Bus;
+use rules::Check;
 use rules::Cycle;
 use rules::Inputs;
-use rules::Refusal;
 use rules::Start;
-use rules::State;
 ghost use mathlib.Core.Path.{_≡_};
-ghost use mathlib.Core.Bool.{true};
-ghost use Prim.Native.Nat.{_≤_};
+ghost use Prim.Native.Nat.{_≤_, _<_};
 ghost use lib.ListN.{length};
 ghost use Rattle.rules.specs.declared.Check.the-variants.{Good};
-ghost use Rattle.rules.specs.Valid.{cycleCheck};
-ghost use Rattle.rules.specs.State.{mastersOk};
+ghost use Rattle.rules.specs.Codes.{mostCycles};
+ghost use Rattle.rules.specs.Valid.{inputsCheck};
+ghost use Rattle.rules.specs.State.{WellFormed};
 ghost use Rattle.rules.specs.Step.{stepOf};
+ghost use Rattle.buses.specs.Buses.{stateFrom, Fit};
 ghost use Rattle.hosting.specs.Bytes.{bytesState};
-ghost use Rattle.hosting.specs.Calls.{lent, ofAnswer, ofLent, lineStored, StepCall, ResetCall};
+ghost use Rattle.hosting.specs.Calls.{lent, ofAnswer, ofLent, hostNumber, hostState, hostLine, StepCall, ResetCall};
+ghost use Rattle.host.specs.Tests.{passes};
 
-fn stepped(s: State, x: Inputs) -> Outcome
-    ensures { λ r. ⌜ r ≡ ofAnswer (stepOf s x) x ⌝ }
+// Whether a stimulus is valid for n, with few tests.
+fn valid(n: u32, x: Inputs) -> bool
+    requires { ⌜ n ≤ 16 ⌝ }
+    ensures { λ r. ⌜ r ≡ passes (inputsCheck n x) ⌝ }
 {
-    match arbitration::step(s, x) {
-        Answer::Next(t, outputs) => {
-            let c = Cycle { inputs: x, outputs };
-            Outcome::Taken(t, c)
-        }
-        Answer::Refused(r, _) => Outcome::Refused(r),
-    }
+    ((x.hbusreq | x.hlock) >> n == 0)
+        & (x.hready <= 1)
+        & (x.htrans <= 3)
+        & !(x.htrans == 1)
+        & (x.hburst <= 3)
+        & !(x.hburst == 2)
 }
 
-// What a step of the bytes comes to: 10, then as a step.
-fn outcome(b: &[u8], x: Inputs) -> Outcome
+// The number that a step of the bytes answers: that of its refusal, 10, 8, 4, 5 or 6.
+fn refusal(b: &[u8], hbusreq: u32, hlock: u32, hready: u32, htrans: u32, hburst: u32) -> u32
     requires { ⌜ 12 ≤ length (now b) ⌝ }
-    ensures { λ r. ⌜ r ≡ ofLent (bytesState (now (b .entry))) x ⌝ }
+    ensures { λ r. ⌜ r ≡ hostNumber (ofLent (bytesState (now (b .entry))) (lent hbusreq hlock hready htrans hburst)) ⌝ }
 {
-    match octets::read_state(b) {
-        Lent::Known(s) => stepped(s, x),
-        Lent::Unknown => Outcome::Refused(Refusal::State),
+    let held = octets::see(b);
+    let s = held.bus;
+    if !held.sound {
+        return 10;
+    }
+    if 1000000 <= s.count {
+        return 8;
+    }
+    let x = Inputs {
+        hbusreq,
+        hlock,
+        hready,
+        htrans,
+        hburst,
+    };
+    match signals::check_inputs(held.n, x) {
+        Check::Good => 0,
+        Check::Bad(r) => signals::number(r),
     }
 }
 
-// Writes the line of a cycle that the writer takes, so that its answer says nothing new.
-fn put_line(n: u32, c: Cycle, line: &mut [u8])
-    requires { ⌜ (mastersOk n ≡ true) × (cycleCheck n c ≡ Good) × (31 ≤ length (now line)) ⌝ }
-    ensures { λ _. ⌜ now (line .exit) ≡ lineStored c (now (line .entry)) ⌝ }
+// A cycle that a step takes: the bytes of the state and of the line after it.
+fn take(n: u32, b: Bus, x: Inputs, state: &mut [u8], line: &mut [u8])
+    requires { ⌜ WellFormed (stateFrom n b) × Fit b × (b .count < mostCycles) × (inputsCheck n x ≡ Good) × (12 ≤ length (now state)) × (31 ≤ length (now line)) ⌝ }
+    ensures { λ _. ⌜ (now (state .exit) ≡ hostState (ofAnswer (stepOf (stateFrom n b) x) x) (now (state .entry))) × (now (line .exit) ≡ hostLine (ofAnswer (stepOf (stateFrom n b) x) x) (now (line .entry))) ⌝ }
 {
-    lines::write_trace(n, c, line);
+    let went = buses::advance(n, b, x);
+    let after = went.bus;
+    let outputs = went.outputs;
+    let c = Cycle { inputs: x, outputs };
+    octets::put(n, after, state);
+    prints::put_line(b.g, c, line);
 }
 
 // One cycle of the state in the lent bytes: 9, then as a step. The line of the cycle goes to the second buffer.
@@ -70,6 +88,11 @@ pub extern "C" fn espigambre_step(
     if line.len() < 31 {
         return 9;
     }
+    let held = octets::see(state);
+    let b = held.bus;
+    if !(held.sound & (b.count < 1000000)) {
+        return refusal(state, hbusreq, hlock, hready, htrans, hburst);
+    }
     let x = Inputs {
         hbusreq,
         hlock,
@@ -77,14 +100,11 @@ pub extern "C" fn espigambre_step(
         htrans,
         hburst,
     };
-    match outcome(state, x) {
-        Outcome::Refused(r) => signals::number(r),
-        Outcome::Taken(t, c) => {
-            octets::put_state(t, state);
-            put_line(t.n, c, line);
-            0
-        }
+    if !valid(held.n, x) {
+        return refusal(state, hbusreq, hlock, hready, htrans, hburst);
     }
+    take(held.n, b, x, state, line);
+    0
 }
 
 // The reset state of n masters into the lent bytes: 9, 1.
@@ -98,7 +118,8 @@ pub extern "C" fn espigambre_reset(n: u32, state: &mut [u8]) -> u32
     match arbitration::reset(n) {
         Start::Refused(r) => signals::number(r),
         Start::Ready(s) => {
-            octets::put_state(s, state);
+            let b = buses::bus_of(s);
+            octets::put(s.n, b, state);
             0
         }
     }

@@ -1,6 +1,8 @@
 -- The host's calls are the plain ones, of the state that its bytes write.
 --
+--   short-state, short-line, short-reset == a buffer that is too short is refusal 9
 --   plain-step     == with both buffers long enough, a call is the step of the state that the bytes write
+--   plain-reset    == with the buffer long enough, a call is the reset
 --   plain-number   == it answers the number that the step answers
 --   plain-bytes    == where the step is taken, the buffers get the bytes of the state and of the line that follow
 --   refused-unchanged == a call that answers another number than 0 changes no byte
@@ -9,14 +11,14 @@
 --   step-known     == the bytes that such a call leaves write the state that follows
 --   step-call-unique, reset-call-unique == two results that meet a call's contract are equal
 --   reset-known    == the bytes that a reset leaves write the reset state, for n from 2 to 16
-use Prim.Native.Nat.{ℕ, _≤_}
+use Prim.Native.Nat.{ℕ, _≤_, _<_}
 use mathlib.Core.Path.{_≡_, refl, sym, _∙_}
 use mathlib.Core.Bool.{true}
 use mathlib.Core.List.{List, _++_}
 use native.Mathlib.Omega.{arith}
-use borrow.Author.Tests.{le-ltb}
+use borrow.Author.Tests.{lt-ltb, le-ltb}
 use lib.ListN.{length, drop}
-use Rattle.rules.specs.declared.Refusal.the-variants.{State as StateRefusal}
+use Rattle.rules.specs.declared.Refusal.the-variants.{Short, State as StateRefusal}
 use Rattle.rules.specs.declared.Check.the-variants.{Good}
 use Rattle.rules.specs.declared.State.{State}
 use Rattle.rules.specs.declared.Inputs.{Inputs}
@@ -24,10 +26,10 @@ use Rattle.rules.specs.declared.Outputs.{Outputs}
 use Rattle.rules.specs.declared.Cycle.{Cycle}
 use Rattle.rules.specs.declared.Answer.{Answer}
 use Rattle.rules.specs.declared.Answer.the-variants as answer
-use Rattle.rules.specs.declared.Start.the-variants.{Ready}
+use Rattle.rules.specs.declared.Start.the-variants.{Ready, Refused as Unready}
 use Rattle.rules.specs.Refusals.{answerOf}
 use Rattle.rules.specs.Valid.{cycleCheck}
-use Rattle.rules.specs.State.{mastersOk, resetState, WellFormed}
+use Rattle.rules.specs.State.{mastersOk, resetState, resetOf, WellFormed}
 use Rattle.rules.specs.Step.{stepOf}
 use Rattle.rules.proofs.WellFormed.{masters-ok, reset-taken, reset-sound}
 use Rattle.rules.proofs.Taken.{taken, decide, next-n}
@@ -41,6 +43,22 @@ use Rattle.hosting.specs.declared.Outcome.the-variants.{Taken, Refused}
 use Rattle.hosting.specs.Bytes.{stateSize, stateBytes, bytesState}
 use Rattle.hosting.specs.Calls.{lineSize, ofAnswer, ofLent, hostStep, hostNumber, stateStored, lineStored, hostState, hostLine, hostReset, hostStart, StepCall, ResetCall}
 use Rattle.hosting.proofs.Bytes.{state-again}
+
+pub short-state : (state line : List ℕ) (x : Inputs) → length state < stateSize → hostStep state line x ≡ Refused Short
+unfolding hostStep
+short-state state line x h = simp (lt-ltb (length state) 12 h)
+
+pub short-line : (state line : List ℕ) (x : Inputs) → stateSize ≤ length state → length line < lineSize → hostStep state line x ≡ Refused Short
+unfolding hostStep
+short-line state line x room h = simp (le-ltb (length state) 12 room, lt-ltb (length line) 31 h)
+
+pub short-reset : (n : ℕ) (state : List ℕ) → length state < stateSize → hostReset n state ≡ Unready Short
+unfolding hostReset
+short-reset n state h = simp (lt-ltb (length state) 12 h)
+
+pub plain-reset : (n : ℕ) (state : List ℕ) → stateSize ≤ length state → hostReset n state ≡ resetOf n
+unfolding hostReset
+plain-reset n state room = simp (le-ltb (length state) 12 room)
 
 -- two buffers that are long enough
 module _ (state line : List ℕ) (x : Inputs) (room : stateSize ≤ length state) (space : lineSize ≤ length line) where
@@ -110,9 +128,9 @@ step-known state x t c e = state-again t (drop stateSize state) (follows (bytesS
 
 pub reset-known : (n : ℕ) (state : List ℕ) → stateSize ≤ length state → 2 ≤ n → n ≤ 16
     → (hostReset n state ≡ Ready (resetState n)) × (bytesState (hostStart (Ready (resetState n)) state) ≡ Known (resetState n))
-unfolding hostReset stateStored
+unfolding stateStored
 reset-known n state room few many =
-    (simp (le-ltb (length state) 12 room) (reset-taken n few many), state-again (resetState n) (drop stateSize state) (reset-sound n few many))
+    (plain-reset n state room ∙ reset-taken n few many, state-again (resetState n) (drop stateSize state) (reset-sound n few many))
 
 -- what the calls promise leaves no choice
 pub step-call-unique : (x : Inputs) (state line : List ℕ) (r r' : ℕ) (s s' l l' : List ℕ) → StepCall x state line r s l → StepCall x state line r' s' l'

@@ -37,7 +37,7 @@ leftByte (Fixed k) = k
 leftByte Open = 0
 leftByte Done = 0
 
--- "n, g, m, HMASTLOCK, GRANTED, phase, k, 0, then the count, low byte first"
+-- "n, g, m, HMASTLOCK, GRANTED, phase .., k .., 0, then the count, low byte first"
 unfoldable pub stateBytes : State → List ℕ
 stateBytes s =
     s .n

@@ -6,7 +6,7 @@
 --   stateStored s buffer, lineStored c buffer == a buffer that gets the state s, or the line of the cycle c
 --   hostNumber o         == the number that it answers: 0, or that of the refusal
 --   hostState o buffer, hostLine o buffer == the two buffers afterwards
---   hostReset n state    == what a reset of the lent bytes comes to; startOf gives its number
+--   hostReset n state    == what a reset of the lent bytes comes to; resetAnswer gives its number
 --   hostStart a buffer   == the buffer afterwards
 --   StepCall, ResetCall  == the contracts of the two calls
 use Prim.Native.Nat.{ℕ}
@@ -23,7 +23,7 @@ use Rattle.rules.specs.declared.Start.{Start}
 use Rattle.rules.specs.declared.Start.the-variants.{Ready, Refused as Unready}
 use Rattle.rules.specs.declared.Answer.{Answer}
 use Rattle.rules.specs.declared.Answer.the-variants as answer
-use Rattle.rules.specs.Refusals.{numberOf, startOf}
+use Rattle.rules.specs.Refusals.{numberOf, resetAnswer}
 use Rattle.rules.specs.State.{resetOf}
 use Rattle.rules.specs.Step.{stepOf}
 use Rattle.formats.specs.Fields.{width}
@@ -92,4 +92,4 @@ StepCall x state line r state' line' =
     × (line' ≡ hostLine (hostStep state line x) line)
 
 abbrev pub ResetCall : ℕ → List ℕ → ℕ → List ℕ → Type 0
-ResetCall n state r state' = (r ≡ startOf (hostReset n state)) × (state' ≡ hostStart (hostReset n state) state)
+ResetCall n state r state' = (r ≡ resetAnswer (hostReset n state)) × (state' ≡ hostStart (hostReset n state) state)

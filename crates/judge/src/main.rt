@@ -1,17 +1,24 @@
 // The judging program: a trace on standard input, its report on standard output.
 use console::Fed;
 use formats::Written;
-use streams::Bench;
 use streams::JudgeStretch;
+use streams::Tally;
+ghost use mathlib.Core.Path.{_≡_};
+ghost use mathlib.Core.Bool.{true, false};
+ghost use Prim.Native.Nat.{_≤_};
+ghost use lib.ListN.{length};
+ghost use Rattle.streams.specs.declared.Flow.the-variants.{GoesOn};
+ghost use Rattle.streams.specs.Blocks.{judgeBlockOf};
+ghost use Rattle.console.specs.Fed.{Nearer};
 
 // After a block: whether the program goes on, and what it keeps.
 struct After {
     on: bool,
-    bench: Bench,
+    tally: Tally,
 }
 
 // The end line.
-fn end(b: Bench, out: &mut [u8]) {
+fn end(b: Tally, out: &mut [u8]) {
     match streaming::judge_end(b, out) {
         Written::Bytes(w) => {
             console::give(w, out);
@@ -21,65 +28,82 @@ fn end(b: Bench, out: &mut [u8]) {
 }
 
 // Writes what a header or a block came to.
-fn give(a: JudgeStretch, out: &[u8]) -> After {
+fn give(a: JudgeStretch, out: &[u8]) -> After
+    ensures { λ r. ⌜ (r .on ≡ true → a .flow ≡ GoesOn) ⌝ }
+    ensures { λ r. ⌜ r .tally ≡ a .tally ⌝ }
+{
     let given = console::give(a.written, out);
     let flow = a.flow;
     let goes = console::goes_on(flow);
-    let bench = a.bench;
+    let tally = a.tally;
     After {
         on: given & goes,
-        bench,
+        tally,
     }
 }
 
 // A block that was read: its lines are taken, and what they come to is written.
-fn take(b: Bench, block: &[u8], out: &mut [u8]) -> After {
+fn take(b: Tally, block: &[u8], out: &mut [u8]) -> After
+    ensures { λ r. ⌜ (r .on ≡ true → judgeBlockOf b (now (block .entry)) (length (now (out .entry))) .flow ≡ GoesOn) ⌝ }
+    ensures { λ r. ⌜ r .tally ≡ judgeBlockOf b (now (block .entry)) (length (now (out .entry))) .tally ⌝ }
+{
     let a = streaming::judge_block(b, block, out);
     give(a, out)
 }
 
 // The last block, and the end line after it.
-fn take_last(b: Bench, block: &[u8], out: &mut [u8]) -> After {
+fn take_last(b: Tally, block: &[u8], out: &mut [u8]) -> After
+    ensures { λ r. ⌜ r .on ≡ false ⌝ }
+{
     let t = take(b, block, out);
-    let bench = t.bench;
+    let tally = t.tally;
     if t.on {
-        end(bench, out);
+        end(tally, out);
     }
-    After { on: false, bench }
+    After { on: false, tally }
 }
 
 // One block. A short one is the last.
-fn turn(b: Bench, block: &mut [u8], out: &mut [u8]) -> After {
+fn turn(b: Tally, block: &mut [u8], out: &mut [u8]) -> After
+    requires { ⌜ 1 ≤ length (now block) ⌝ }
+    ensures { λ r. ⌜ Nearer (r .on) (b .judge .count) (r .tally .judge .count) ⌝ }
+{
     match console::read_block(block) {
         Fed::More(n) => take(b, console::first(n, block), out),
         Fed::Last(n) => take_last(b, console::first(n, block), out),
         Fed::Broken => After {
             on: false,
-            bench: b,
+            tally: b,
         },
     }
 }
 
-// Block after block: 977 blocks of 1,024 lines hold 1,000,001 lines, the last of which is refused.
-fn run(start: After, block: &mut [u8], out: &mut [u8]) {
-    let mut t = start;
-    let mut turns: u32 = 977;
-    while turns > 0 {
+// Block after block, and no bound on their number: each that is not the last brings the count nearer to 1,000,000, and the line after that stops the
+// program.
+fn run(start: Tally, block: &mut [u8], out: &mut [u8])
+    requires { ⌜ 1 ≤ length (now block) ⌝ }
+{
+    let mut tally = start;
+    loop {
+        let t = turn(tally, block, out);
         if !t.on {
             return;
         }
-        let bench = t.bench;
-        let next = turn(bench, block, out);
-        t = next;
-        turns -= 1;
+        let next = t.tally;
+        tally = next;
     }
 }
 
 // The header, and the blocks after one that is accepted.
-fn start(n: usize, block: &mut [u8], out: &mut [u8]) {
+fn start(n: usize, block: &mut [u8], out: &mut [u8])
+    requires { ⌜ 1 ≤ length (now block) ⌝ }
+{
     let a = streaming::judge_head(console::first(n, block), out);
     let t = give(a, out);
-    run(t, block, out);
+    let tally = t.tally;
+    if t.on {
+        run(tally, block, out);
+    }
 }
 
 fn main() {

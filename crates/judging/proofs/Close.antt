@@ -4,7 +4,7 @@
 --   good, bad        == the two ends of a tested cycle
 --   sound            == a judge that passes its test is well formed
 --   malformed, full, gone-on == the three ends of a step
-use Prim.Native.Nat.{_≤_, _<_}
+use Prim.Native.Nat.{ℕ, _≤_, _<_}
 use mathlib.Core.Path.{_≡_, sym, _∙_}
 use mathlib.Core.Bool.{Bool, true, false, not}
 use mathlib.Core.List.{List, map}
@@ -21,13 +21,16 @@ use Rattle.rulebook.specs.declared.Judgement.{Judgement}
 use Rattle.rulebook.specs.declared.Verdict.the-variants.{Taken}
 use Rattle.rulebook.specs.Rules.{rules}
 use Rattle.rulebook.specs.State.{wellFormed}
-use Rattle.rulebook.specs.Charges.{judged, charges}
+use Rattle.rulebook.specs.Charges.{nextJudge, charges}
+use Rattle.rulebook.specs.Named.{maskOf, flagsIn}
+use Rattle.rulebook.proofs.Named.{mask-again}
 use Rattle.rulebook.specs.Step.{refusedOf, takenOf, checkedOf, judgeOf}
 
 module _ (j : Judge) (c : Cycle) where
-  pub taken : (after : Judge) (l : List Bool) → after ≡ judged j c → l ≡ map (charges j c) rules → record { judge = after; verdict = Taken; charged = l } ≡ takenOf j c
+  pub taken : (after : Judge) (m : ℕ) (l : List Bool) → after ≡ nextJudge j c → m ≡ maskOf (map (charges j c) rules) → l ≡ flagsIn 21 m
+      → record { judge = after; verdict = Taken; charged = l } ≡ takenOf j c
   unfolding takenOf
-  taken after l e f = rw (e, f)
+  taken after m l e f g = rw (e, g, f, mask-again (map (charges j c) rules))
 
   pub good : (k f : Check) (a : Judgement) → f ≡ k → f ≡ Good → a ≡ takenOf j c → a ≡ checkedOf k j c
   good k f a e g h =

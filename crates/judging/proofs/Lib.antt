@@ -1,3 +1,3 @@
-pub mod Ready
+pub mod Digits
 pub mod Close
 pub mod Unique

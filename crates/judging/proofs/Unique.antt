@@ -5,13 +5,13 @@ use mathlib.Core.Path.{_≡_, sym, _∙_}
 use mathlib.Core.Bool.{Bool}
 use Rattle.rules.specs.declared.Cycle.{Cycle}
 use Rattle.rulebook.specs.declared.Judge.{Judge}
-use Rattle.rulebook.specs.declared.Opening.{Opening}
+use Rattle.rulebook.specs.declared.Started.{Started}
 use Rattle.rulebook.specs.declared.Judgement.{Judgement}
 use Rattle.judging.proofs.start.Reads as start
 use Rattle.judging.proofs.well_formed.Reads as well-formed
 use Rattle.judging.proofs.step.Reads as step
 
-pub start-unique : (n : ℕ) (a a' : Opening) → start.Post tt (n, tt) a (n, tt) → start.Post tt (n, tt) a' (n, tt) → a ≡ a'
+pub start-unique : (n : ℕ) (a a' : Started) → start.Post tt (n, tt) a (n, tt) → start.Post tt (n, tt) a' (n, tt) → a ≡ a'
 start-unique n a a' p q = p ∙ sym q
 
 pub well-formed-unique : (j : Judge) (b b' : Bool) → well-formed.Post tt (j, tt) b (j, tt) → well-formed.Post tt (j, tt) b' (j, tt) → b ≡ b'

@@ -3,7 +3,7 @@ mod form;
 
 use rulebook::Judge;
 use rulebook::Judgement;
-use rulebook::Opening;
+use rulebook::Started;
 use rulebook::Verdict;
 use rulebook::Watch;
 use rules::Check;
@@ -17,6 +17,7 @@ ghost use Prim.Native.Nat.{_<_};
 ghost use Rattle.rules.specs.Codes.{mostCycles};
 ghost use Rattle.rules.specs.Valid.{cycleCheck};
 ghost use Rattle.rulebook.specs.State.{noCycle, startJudge, startOf, wellFormed};
+ghost use Rattle.rulebook.specs.Named.{flagsIn};
 ghost use Rattle.rulebook.specs.Step.{refusedOf, takenOf, checkedOf, judgeOf};
 ghost use Rattle.charging.specs.Ready.{Ready};
 
@@ -60,16 +61,16 @@ fn start_judge(n: u32) -> Judge
 }
 
 // The judge of n masters, or refusal 1 beside a judge of none.
-pub fn start(n: u32) -> Opening
+pub fn start(n: u32) -> Started
     ensures { λ r. ⌜ r ≡ startOf n ⌝ }
 {
     if (2 <= n) & (n <= 16) {
-        Opening {
+        Started {
             judge: start_judge(n),
             verdict: Verdict::Taken,
         }
     } else {
-        Opening {
+        Started {
             judge: start_judge(0),
             verdict: Verdict::Refused(Refusal::Masters),
         }
@@ -110,6 +111,26 @@ fn refused(j: Judge, r: Refusal) -> Judgement
     }
 }
 
+// For each rule, in the order of the report, whether it is charged.
+struct Charges {
+    of: [bool; 21],
+}
+
+// The digits of a number as flags.
+fn flags_in(number: u32) -> Charges
+    ensures { λ r. ⌜ r .of ≡ flagsIn 21 number ⌝ }
+{
+    let mut charges = Charges { of: [false; 21] };
+    let mut m = number;
+    let mut i: usize = 0;
+    while i < 21 {
+        charges.of[i] = m % 2 == 1;
+        m = m / 2;
+        i += 1;
+    }
+    charges
+}
+
 // A cycle that is taken: what it charges, and the judge after it.
 fn take(j: Judge, c: Cycle) -> Judgement
     requires { ⌜ Ready j c ⌝ }
@@ -117,7 +138,7 @@ fn take(j: Judge, c: Cycle) -> Judgement
 {
     let kept = keeping::keep(j, c);
     let judge = kept.judge;
-    let all = charging::charge_all(j, c, kept.reached);
+    let all = flags_in(charging::charge_all(j, c, kept.reached));
     let charged = all.of;
     Judgement {
         judge,

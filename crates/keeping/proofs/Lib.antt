@@ -1,3 +1,4 @@
+pub mod Masks
 pub mod Arms
 pub mod Stored
 pub mod Lost

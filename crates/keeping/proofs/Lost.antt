@@ -12,7 +12,7 @@ use lib.ListN.{length, getD}
 use Rattle.rules.specs.declared.Cycle.{Cycle}
 use Rattle.rulebook.specs.declared.Judge.{Judge}
 use Rattle.rulebook.specs.Columns.{someMaster}
-use Rattle.rulebook.specs.Charges.{afterDecision, reaches, lostAfter, listFrom, judged}
+use Rattle.rulebook.specs.Charges.{afterDecision, reaches, lostAfter, listFrom, nextJudge}
 use Rattle.keeping.specs.Room.{Low}
 use Rattle.keeping.specs.Lost.{withLost, countBy, reachesBy}
 use Rattle.keeping.proofs.Stored.{from-kept}
@@ -28,28 +28,28 @@ module _ (j : Judge) where
   with-kept n = ap (withLost j) (from-kept (j .lost) 16 n)
 
 -- next is the judge after the cycle c but for its lost counts
-module _ (j : Judge) (c : Cycle) (next : Judge) (e : next ≡ withLost (judged j c) (j .lost)) where
+module _ (j : Judge) (c : Cycle) (next : Judge) (e : next ≡ withLost (nextJudge j c) (j .lost)) where
   pub low-next : Low (j .lost) → Low (next .lost)
   low-next l = subst⁻¹ (λ (s : Judge). Low (s .lost)) e l
 
   pub lost-decided : (after : Judge) → afterDecision j ≡ true
       → after ≡ withLost next (listFrom 0 16 (countBy (next .n) (j .previous .inputs .hbusreq) (c .outputs .hgrant) (next .lost)))
-      → after ≡ judged j c
-  unfolding judged lostAfter
+      → after ≡ nextJudge j c
+  unfolding nextJudge lostAfter
   lost-decided after d g =
       g
       ∙ ap (λ (s : Judge). withLost s (listFrom 0 16 (countBy (s .n) (j .previous .inputs .hbusreq) (c .outputs .hgrant) (s .lost)))) e
-      ∙ ap (λ (f : ℕ → ℕ). withLost (judged j c) (listFrom 0 16 f)) (fun-ext (λ i. rw d))
+      ∙ ap (λ (f : ℕ → ℕ). withLost (nextJudge j c) (listFrom 0 16 f)) (fun-ext (λ i. rw d))
 
-  pub lost-kept : (after : Judge) → afterDecision j ≡ false → after ≡ withLost next (listFrom 0 16 (λ i. getD (next .lost) i 0)) → after ≡ judged j c
-  unfolding judged lostAfter
+  pub lost-kept : (after : Judge) → afterDecision j ≡ false → after ≡ withLost next (listFrom 0 16 (λ i. getD (next .lost) i 0)) → after ≡ nextJudge j c
+  unfolding nextJudge lostAfter
   lost-kept after d g =
       g
       ∙ ap (λ (s : Judge). withLost s (listFrom 0 16 (λ i. getD (s .lost) i 0))) e
-      ∙ ap (λ (f : ℕ → ℕ). withLost (judged j c) (listFrom 0 16 f)) (fun-ext (λ i. rw d))
+      ∙ ap (λ (f : ℕ → ℕ). withLost (nextJudge j c) (listFrom 0 16 f)) (fun-ext (λ i. rw d))
 
   pub reached-decided : (b : Bool) → afterDecision j ≡ true → b ≡ someMaster (reachesBy (next .n) (j .previous .inputs .hbusreq) (c .outputs .hgrant) (next .lost))
       → b ≡ (afterDecision j && someMaster (reaches j c))
-  unfolding judged
+  unfolding nextJudge
   reached-decided b d g =
       g ∙ ap (λ (s : Judge). someMaster (reachesBy (s .n) (j .previous .inputs .hbusreq) (c .outputs .hgrant) (s .lost))) e ∙ rw d

@@ -2,9 +2,11 @@
 --
 --   withLost j l == the judge j with the lost counts l
 --   losesBy requests grants i == master i asked and has no grant
+--   Losers requests grants m == the mask m has the bits of those masters
 --   countBy n requests grants l i == its lost count after the decision
 --   reachesBy n requests grants l i == it loses once more, and has then lost as many as the limit
 use Prim.Native.Nat.{ℕ, _+_}
+use mathlib.Core.Path.{_≡_}
 use mathlib.Core.Bool.{Bool, not, _&&_}
 use mathlib.Core.List.{List}
 use lib.Dec.{eqb}
@@ -29,6 +31,9 @@ withLost j l =
 
 abbrev pub losesBy : ℕ → ℕ → ℕ → Bool
 losesBy requests grants i = high requests i && not (high grants i)
+
+pub record Losers (requests grants m : ℕ) : Type 0 where
+  pub each : (i : ℕ) → high m i ≡ losesBy requests grants i
 
 abbrev pub countBy : ℕ → ℕ → ℕ → List ℕ → ℕ → ℕ
 countBy n requests grants l i = longer (limit n) (losesBy requests grants i) (getD l i 0)

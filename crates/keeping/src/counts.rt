@@ -8,7 +8,7 @@ ghost use Rattle.rules.specs.Codes.{mostMasters};
 ghost use Rattle.rulebook.specs.Columns.{someMaster};
 ghost use Rattle.rulebook.specs.Charges.{longer as longerOf, listFrom};
 ghost use Rattle.keeping.specs.Room.{Low};
-ghost use Rattle.keeping.specs.Lost.{withLost, losesBy, countBy, reachesBy};
+ghost use Rattle.keeping.specs.Lost.{withLost, Losers, countBy, reachesBy};
 
 pub fn longer(k: u32, f: bool, r: u32) -> u32
     requires { ⌜ r < 1024 ⌝ }
@@ -19,12 +19,11 @@ pub fn longer(k: u32, f: bool, r: u32) -> u32
     signals::pick_number(f, kept, 0)
 }
 
-fn loses(requests: u32, grants: u32, i: u32) -> bool
-    ensures { λ r. ⌜ r ≡ losesBy requests grants i ⌝ }
+// The masters that asked and have no grant.
+fn losers(requests: u32, grants: u32) -> u32
+    ensures { λ r. ⌜ Losers requests grants r ⌝ }
 {
-    let asked = signals::is_high(requests, i);
-    let has = signals::is_high(grants, i);
-    asked & !has
+    (requests & grants) ^ requests
 }
 
 // A judge with its lost counts after a cycle, and whether one of them reached the limit.
@@ -40,12 +39,13 @@ pub fn count_lost(j: Judge, requests: u32, grants: u32) -> Counted
 {
     let n = j.n;
     let old = j.lost;
+    let mask = losers(requests, grants);
     let mut next = j;
     let mut reached = false;
     let mut i: u32 = 0;
     while i < 16 {
         let lost = old[i as usize];
-        let more = loses(requests, grants, i);
+        let more = (mask >> i) % 2 == 1;
         reached = reached | (more & (lost + 1 == n));
         next.lost[i as usize] = longer(n, more, lost);
         i += 1;

@@ -9,14 +9,14 @@ use rules::Cycle;
 ghost use mathlib.Core.Path.{_≡_};
 ghost use mathlib.Core.Bool.{_&&_};
 ghost use Rattle.rulebook.specs.Columns.{someMaster};
-ghost use Rattle.rulebook.specs.Charges.{afterDecision, reaches, judged};
+ghost use Rattle.rulebook.specs.Charges.{afterDecision, reaches, nextJudge};
 ghost use Rattle.keeping.specs.Room.{Room};
 ghost use Rattle.keeping.specs.Lost.{withLost};
 
 // The judge after a cycle, but for its lost counts.
 fn advance(j: Judge, c: Cycle) -> Judge
     requires { ⌜ Room j ⌝ }
-    ensures { λ r. ⌜ r ≡ withLost (judged j c) (j .lost) ⌝ }
+    ensures { λ r. ⌜ r ≡ withLost (nextJudge j c) (j .lost) ⌝ }
 {
     let count = j.count + 1;
     let lost = j.lost;
@@ -40,7 +40,7 @@ fn advance(j: Judge, c: Cycle) -> Judge
 // The judge after a cycle, and whether a lost count reached the limit at it.
 pub fn keep(j: Judge, c: Cycle) -> Counted
     requires { ⌜ Room j ⌝ }
-    ensures { λ r. ⌜ (r .judge ≡ judged j c) × (r .reached ≡ (afterDecision j && someMaster (reaches j c))) ⌝ }
+    ensures { λ r. ⌜ (r .judge ≡ nextJudge j c) × (r .reached ≡ (afterDecision j && someMaster (reaches j c))) ⌝ }
 {
     let p = j.previous;
     let next = advance(j, c);

@@ -7,7 +7,7 @@ use rules::Cycle;
 ghost use mathlib.Core.Path.{_≡_};
 ghost use mathlib.Core.Bool.{cond};
 ghost use Prim.Native.Nat.{_-_};
-ghost use Rattle.rulebook.specs.Charges.{watchFor, watchOf, watchFrom, watchOn, openedAfter, watchAfter};
+ghost use Rattle.rulebook.specs.Charges.{g3With, burstWatch, openingWatch, laterWatch, openedAfter, watchAfter};
 
 fn pick_watch(d: bool, a: Watch, b: Watch) -> Watch
     ensures { λ r. ⌜ r ≡ cond d a b ⌝ }
@@ -22,29 +22,29 @@ fn one_less(k: u32) -> u32
     if k == 0 { 0 } else { k - 1 }
 }
 
-fn watch_for(k: u32) -> Watch
-    ensures { λ r. ⌜ r ≡ watchFor k ⌝ }
+fn g3_with(k: u32) -> Watch
+    ensures { λ r. ⌜ r ≡ g3With k ⌝ }
 {
     pick_watch(k == 0, Watch::Nothing, Watch::OnG3(k))
 }
 
-fn watch_of(b: Burst) -> Watch
-    ensures { λ r. ⌜ r ≡ watchOf b ⌝ }
+fn burst_watch(b: Burst) -> Watch
+    ensures { λ r. ⌜ r ≡ burstWatch b ⌝ }
 {
     match b {
         Burst::Single => Watch::Nothing,
         Burst::Unspecified => Watch::OnG2,
-        Burst::Fixed(k) => watch_for(one_less(k)),
+        Burst::Fixed(k) => g3_with(one_less(k)),
         Burst::NotBuilt => Watch::Nothing,
         Burst::NoCode => Watch::Nothing,
     }
 }
 
-fn watch_from(c: Cycle) -> Watch
-    ensures { λ r. ⌜ r ≡ watchFrom c ⌝ }
+fn opening_watch(c: Cycle) -> Watch
+    ensures { λ r. ⌜ r ≡ openingWatch c ⌝ }
 {
     let sort = signals::burst(c.inputs.hburst);
-    let watch = watch_of(sort);
+    let watch = burst_watch(sort);
     pick_watch(
         !(c.outputs.granted == 1) & (c.outputs.hmastlock == 1),
         watch,
@@ -52,8 +52,8 @@ fn watch_from(c: Cycle) -> Watch
     )
 }
 
-fn watch_on(w: Watch, c: Cycle) -> Watch
-    ensures { λ r. ⌜ r ≡ watchOn w c ⌝ }
+fn later_watch(w: Watch, c: Cycle) -> Watch
+    ensures { λ r. ⌜ r ≡ laterWatch w c ⌝ }
 {
     match w {
         Watch::Nothing => Watch::Nothing,
@@ -62,7 +62,7 @@ fn watch_on(w: Watch, c: Cycle) -> Watch
             pick_watch(request, Watch::OnG2, Watch::Nothing)
         }
         Watch::OnG3(k) => {
-            let less = watch_for(one_less(k));
+            let less = g3_with(one_less(k));
             pick_watch(c.inputs.hready == 1, less, Watch::OnG3(k))
         }
     }
@@ -82,8 +82,8 @@ pub fn watch_after(j: Judge, c: Cycle) -> Watch
     let w = j.watch;
     let over = columns::handover(c);
     let opens = columns::opens(c);
-    let on = watch_on(w, c);
-    let from = watch_from(c);
+    let on = later_watch(w, c);
+    let from = opening_watch(c);
     let first = pick_watch(opens, from, Watch::Nothing);
     let later = pick_watch(j.opened, on, first);
     pick_watch(over, Watch::Nothing, later)

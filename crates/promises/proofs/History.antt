@@ -23,7 +23,7 @@ use Rattle.rules.proofs.Masks.{high-single}
 use Rattle.rules.proofs.WellFormed.{Began, reset-sound}
 use Rattle.rules.proofs.Taken.{Taken, decide, next-n, next-count}
 use Rattle.rules.proofs.Kept.{kept}
-use Rattle.rulebook.specs.Columns.{decided, granted, locked, grant, ownersRequest, handover as handoverAt}
+use Rattle.rulebook.specs.Columns.{decided, granted, mastlocked, grant, ownersRequest, handover as handoverAt}
 use Rattle.promises.proofs.Fair.{Sound}
 
 abbrev pub cycleOf : State → Inputs → Cycle
@@ -53,7 +53,7 @@ module _ (s : State) (x : Inputs) where
   unfolding shown
   shown-granted = flag-again (s .granted)
 
-  pub shown-locked : locked (cycleOf s x) ≡ s .hmastlock
+  pub shown-locked : mastlocked (cycleOf s x) ≡ s .hmastlock
   unfolding shown
   shown-locked = flag-again (s .hmastlock)
 

@@ -15,5 +15,9 @@ pub mod Lines
 pub mod Reported
 pub mod Traced
 pub mod Programs
+pub mod Forms
+pub mod Readers
+pub mod AnyInput
+pub mod Simulator
 pub mod Wrong
 pub mod Examples

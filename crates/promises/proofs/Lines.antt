@@ -2,7 +2,7 @@
 --
 --   one-line       == a line at the front of the input is taken by one turn
 --   lines-long     == a line has bytes, so there are no more lines than bytes
---   file-fuel      == so a program has a turn for each line of a file, and one more
+--   file-fuel      == so a program has a turn for each line of a file, and one more, whatever comes after them
 use Prim.Native.Nat.{ℕ, suc, _≤_, _<_}
 use mathlib.Core.Path.{_≡_}
 use mathlib.Core.List.{List, [], _∷_, _++_}
@@ -24,5 +24,6 @@ module _ {A : Type 0} (line : A → List ℕ) (some : (a : A) → 1 ≤ length (
   lines-long [] = omega arith
   lines-long (a ∷ l) = omega (arith, length-append (line a) (linesOf line l), some a, lines-long l)
 
-  pub file-fuel : (head : List ℕ) (l : List A) → length l < suc (length (head ++ linesOf line l))
-  file-fuel head l = omega (arith, lines-long l, length-append head (linesOf line l))
+  pub file-fuel : (head : List ℕ) (l : List A) (rest : List ℕ) → length l < suc (length (head ++ (linesOf line l ++ rest)))
+  file-fuel head l rest =
+      omega (arith, lines-long l, length-append head (linesOf line l ++ rest), length-append (linesOf line l) rest)

@@ -25,9 +25,9 @@ use Rattle.rules.specs.State.{phaseOk}
 use Rattle.rules.specs.Phase.{seen, phaseOpened, phaseLow, phaseAfter}
 use Rattle.rules.proofs.Choice.{either, and-left, and-right}
 use Rattle.rules.proofs.Taken.{Taken, next-phase}
-use Rattle.rulebook.specs.Columns.{isReady, isIncr, isFixed, beats, granted, locked, ownersRequest, handover as handoverAt}
+use Rattle.rulebook.specs.Columns.{isReady, isIncr, isFixed, beats, granted, mastlocked, ownersRequest, handover as handoverAt}
 use Rattle.rulebook.specs.Traces.{access, opens, Opened, notYet, openedAt, further, opening, all, readies}
-use Rattle.rulebook.specs.Rules.{watched, cutsIncr, cutsFixed, g2, g3}
+use Rattle.rulebook.specs.Rules.{isWatched, cutsIncr, cutsFixed, g2, g3}
 use Rattle.promises.specs.Promises.{cutsBurst, cut}
 use Rattle.promises.proofs.History.{cycleOf, shown-granted, shown-locked, shown-request, shown-handover}
 
@@ -41,7 +41,7 @@ Stands (Fixed k) (openedAt o later) = (isIncr o ≡ false) × (beats o - 1 ≤ r
 Stands Open notYet = ⊥
 Stands Open (openedAt o later) = beats o ≡ 0
 Stands Done notYet = ⊥
-Stands Done (openedAt o later) = ((watched o && isIncr o) ≡ true → all ownersRequest later ≡ false) × (beats o - 1 ≤ readies later)
+Stands Done (openedAt o later) = ((isWatched o && isIncr o) ≡ true → all ownersRequest later ≡ false) × (beats o - 1 ≤ readies later)
 
 not-opening : (c : Cycle) → opens c ≡ false → further c notYet ≡ notYet
 not-opening c e = rw e
@@ -71,17 +71,17 @@ stands-waiting Done c notYet r h = absurd h
 stands-waiting Done c (openedAt o later) r h = stands-done c o later h
 
 -- the phase that an opening starts: of the burst b, with HMASTLOCK lock
-stands-opened : (b : Burst) (lock : Bool) (c : Cycle) → burstOf (c .inputs .hburst) ≡ b → watched c ≡ lock → Stands (phaseOpened b lock) (openedAt c [])
+stands-opened : (b : Burst) (lock : Bool) (c : Cycle) → burstOf (c .inputs .hburst) ≡ b → isWatched c ≡ lock → Stands (phaseOpened b lock) (openedAt c [])
 unfolding readies
-stands-opened burst.Single lock c e w = (λ q. absurd (false≢true (sym (rw e (and-false (watched c))) ∙ q)), rw e (omega arith))
+stands-opened burst.Single lock c e w = (λ q. absurd (false≢true (sym (rw e (and-false (isWatched c))) ∙ q)), rw e (omega arith))
 stands-opened burst.Unspecified true c e w = rw e
 stands-opened burst.Unspecified false c e w = (λ q. absurd (differ-of q), rw e (omega arith))
   where
-    differ-of : (watched c && isIncr c) ≡ true → ⊥
-    differ-of q = false≢true (sym w ∙ and-left (watched c) (isIncr c) q)
+    differ-of : (isWatched c && isIncr c) ≡ true → ⊥
+    differ-of q = false≢true (sym w ∙ and-left (isWatched c) (isIncr c) q)
 stands-opened (burst.Fixed b) lock c e w = (rw e, rw e (omega arith))
-stands-opened burst.NotBuilt lock c e w = (λ q. absurd (false≢true (sym (rw e (and-false (watched c))) ∙ q)), rw e (omega arith))
-stands-opened burst.NoCode lock c e w = (λ q. absurd (false≢true (sym (rw e (and-false (watched c))) ∙ q)), rw e (omega arith))
+stands-opened burst.NotBuilt lock c e w = (λ q. absurd (false≢true (sym (rw e (and-false (isWatched c))) ∙ q)), rw e (omega arith))
+stands-opened burst.NoCode lock c e w = (λ q. absurd (false≢true (sym (rw e (and-false (isWatched c))) ∙ q)), rw e (omega arith))
 
 -- one cycle with GRANTED low: what the arbiter saw of the cycle c is v
 pub record Saw (c : Cycle) (lock : Bool) (v : Seen) : Type 0 where
@@ -89,14 +89,14 @@ pub record Saw (c : Cycle) (lock : Bool) (v : Seen) : Type 0 where
   pub opens : opens c ≡ (v .ready && v .nonseq)
   pub burst : burstOf (c .inputs .hburst) ≡ v .burst
   pub request : ownersRequest c ≡ v .request
-  pub watched : watched c ≡ lock
+  pub isWatched : isWatched c ≡ lock
 
 stands-low : (p : Phase) (lock : Bool) (c : Cycle) (v : Seen) (a : Opened) → Saw c lock v → Stands p a → Stands (phaseLow p lock v) (further c a)
 unfolding readies all
 stands-low Fresh lock c v notYet s h = go (v .ready && v .nonseq) refl
   where
     go : (b : Bool) → (v .ready && v .nonseq) ≡ b → Stands (cond (v .ready && v .nonseq) (phaseOpened (v .burst) lock) Fresh) (further c notYet)
-    go true e = rw (e, opening-now c (s .opens ∙ e)) (stands-opened (v .burst) lock c (s .burst) (s .watched))
+    go true e = rw (e, opening-now c (s .opens ∙ e)) (stands-opened (v .burst) lock c (s .burst) (s .isWatched))
     go false e = rw (e, not-opening c (s .opens ∙ e)) tt
 stands-low Fresh lock c v (openedAt o later) s h = absurd h
 stands-low (Fixed k) lock c v notYet s h = absurd h
@@ -105,7 +105,7 @@ stands-low (Fixed k) lock c v (openedAt o later) s h = go (v .ready) (leb k 1) r
     go : (r l : Bool) → v .ready ≡ r → leb k 1 ≡ l → Stands (cond (v .ready) (cond (leb k 1) Done (Fixed (k - 1))) (Fixed k)) (openedAt o (c ∷ later))
     go true true e f =
         rw (e, f) (
-          λ w. absurd (false≢true (sym (h .0) ∙ and-right (watched o) (isIncr o) w)),
+          λ w. absurd (false≢true (sym (h .0) ∙ and-right (isWatched o) (isIncr o) w)),
           rw (s .ready ∙ e) (omega (arith, h .1, leb-true k 1 f)),
         )
     go true false e f = rw (e, f) (h .0, rw (s .ready ∙ e) (omega (arith, h .1, leb-false k 1 f)))
@@ -121,14 +121,14 @@ stands-low Done lock c v (openedAt o later) s h = stands-done c o later h
 
 -- what the arbiter saw of the cycle that it shows, with GRANTED low
 saw : (s : State) (x : Inputs) → s .granted ≡ false → Saw (cycleOf s x) (s .hmastlock) (seen s x)
-unfolding seen opens watched
+unfolding seen opens isWatched
 saw s x g =
     record {
       ready = refl;
       opens = refl;
       burst = refl;
       request = shown-request s x;
-      watched = rw (shown-granted s x, shown-locked s x, g);
+      isWatched = rw (shown-granted s x, shown-locked s x, g);
     }
 
 no-handover : (c : Cycle) (h : List Cycle) → handoverAt c ≡ false → opening (access (c ∷ h)) ≡ further c (opening (access h))
@@ -170,7 +170,7 @@ module _ (t : Cycle) (lock : Bool) where
   whole-incr (Fixed k) (openedAt o later) w h = absurd (no-fixed k lock w)
   whole-incr Open (openedAt o later) w h = absurd (false≢true w)
   whole-incr Done (openedAt o later) w h =
-      either (watched o && isIncr o)
+      either (isWatched o && isIncr o)
       (λ e. rw (e, h .0 e) (and-false (ownersRequest t)))
       (λ e. rw e)
 
@@ -186,9 +186,9 @@ module _ (t : Cycle) (lock : Bool) where
 
 -- G3 watches fewer bursts than there are
 watches-fewer : (t : Cycle) (a : Opened) → cutsBurst t a ≡ false → cutsFixed t a ≡ false
-unfolding watched
+unfolding isWatched
 watches-fewer t notYet e = refl
-watches-fewer t (openedAt o later) e = go (not (granted o)) (locked o) (isFixed o) (ltb (readies (t ∷ later)) (beats o - 1)) e
+watches-fewer t (openedAt o later) e = go (not (granted o)) (mastlocked o) (isFixed o) (ltb (readies (t ∷ later)) (beats o - 1)) e
   where
     go : (g l f b : Bool) → (g && f && b) ≡ false → (g && l && f && b) ≡ false
     go true true f b e = e

@@ -1,8 +1,11 @@
 -- The promises of specs/Programs.antt, each under its name.
+--
+--   reported, traced == what the programs write for good lines, and then for the rest
+--   judged-keeps, run-keeps == the judge and the state after them
 use Prim.Native.Nat.{ℕ, zero, suc, _+_, _≤_}
 use mathlib.Core.Path.{_≡_, refl, sym, _∙_, ap, subst}
 use mathlib.Core.Bool.{false}
-use mathlib.Core.List.{List, [], _∷_, _++_}
+use mathlib.Core.List.{List, [], _∷_, _++_, append-assoc, append-nil}
 use native.Mathlib.Nat.{zero-add}
 use native.Mathlib.Omega.{arith}
 use lib.ListN.{length}
@@ -30,26 +33,26 @@ use Rattle.rulebook.proofs.Promises.{exact-charges, exact-count, every-valid-tr
 use Rattle.formats.specs.declared.Word.the-variants.{Stim, Trace}
 use Rattle.formats.specs.declared.HeaderRead.{HeaderRead}
 use Rattle.formats.specs.Lines.{stimulusLine, traceLine}
-use Rattle.formats.specs.Headers.{header}
+use Rattle.formats.specs.Headers.{header, readHeaderOf}
 use Rattle.formats.specs.Files.{linesOf, stimulusFile, traceFile}
 use Rattle.formats.specs.Report.{endLine}
 use Rattle.formats.specs.Promises.{InRange, Each, ValidCycle, ValidInputs}
 use Rattle.formats.proofs.Promises.{written-header-reads}
-use Rattle.streams.specs.Streams.{written}
+use Rattle.streams.specs.Streams.{stops, written}
 use Rattle.streams.specs.Arbiter.{arbiterTurn, arbiterAfter, arbiterProgram}
-use Rattle.streams.specs.Judging.{judgeTurn, startBench, judgeAfter, judgeProgram}
+use Rattle.streams.specs.Judging.{judgeTurn, startTally, judgeAfter, judgeProgram}
 use Rattle.promises.specs.Machines.{arbiter}
 use Rattle.promises.specs.Runs.{Run, stop, more, traceOf}
 use Rattle.promises.specs.Promises.{isGuarantee}
 use Rattle.promises.specs.Programs.{reportFrom, ReportIsTheVerdict, WritesTheTrace, EveryStimulusRuns, NoGuaranteeReported}
-use Rattle.promises.proofs.Fair.{Sound}
+use Rattle.promises.proofs.Fair.{Sound, run-sound}
 use Rattle.promises.proofs.Cleared.{cleared}
 use Rattle.promises.proofs.Assumed.{only-assumptions}
 use Rattle.promises.proofs.Lines.{file-fuel}
-use Rattle.promises.proofs.Reported.{benchOf, judged-lines}
-use Rattle.promises.proofs.Traced.{run-lines}
+use Rattle.promises.proofs.Reported.{tallyOf, end-turn, judged-lines, judging-keeps}
+use Rattle.promises.proofs.Traced.{end-turn as end-turn-of, run-lines, run-count}
 
-valid-places : (n : ℕ) (cs : List Cycle) → Each (ValidCycle n) cs → ValidTrace n cs
+pub valid-places : (n : ℕ) (cs : List Cycle) → Each (ValidCycle n) cs → ValidTrace n cs
 valid-places n [] valid t below = absurd (omega arith)
 valid-places n (c ∷ cs) valid zero below = valid .0
 valid-places n (c ∷ cs) valid (suc t) below = valid-places n cs (valid .1) t (omega arith)
@@ -58,46 +61,86 @@ places-valid : (n : ℕ) (cs : List Cycle) → ValidTrace n cs → Each (ValidCy
 places-valid n [] valid = tt
 places-valid n (c ∷ cs) valid = (valid 0 (omega arith), places-valid n cs (λ t below. valid (suc t) (omega arith)))
 
--- the report on a trace that is judged, from cycle 0 on and with no breach before
-reported : (n : ℕ) (cs : List Cycle) (j : Judge) (d : Judged n cs j) → InRange n → Each (ValidCycle n) cs
-    → judgeProgram (traceFile n cs) ≡ reportFrom 0 (report d) ++ endLine (length cs) (breaches (report d))
+-- the report on a trace that is judged, from cycle 0 on and with no breach before; then comes the rest
+pub reported : (n : ℕ) (cs : List Cycle) (j : Judge) (d : Judged n cs j) (rest last : List ℕ) → InRange n → Each (ValidCycle n) cs
+    → judgeTurn (tallyOf j (breaches (report d))) rest ≡ stops last
+    → judgeProgram (traceFile n cs ++ rest) ≡ reportFrom 0 (report d) ++ last
 unfolding judgeProgram
-reported n cs j d range valid =
-    let lines : List ℕ = linesOf traceLine cs in
-    let k : ℕ = suc (length (traceFile n cs)) in
+reported n cs j d rest last range valid e =
+    let lines : List ℕ = linesOf traceLine cs ++ rest in
+    let s : List ℕ = header Trace n ++ lines in
     let start = begun n (d .begun) .is in
-    ap (λ (h : HeaderRead). judgeAfter h (traceFile n cs)) (written-header-reads Trace n lines range)
-    ∙ ap (λ (l : List ℕ). written judgeTurn k (startBench n) l) (drop-append-seam (header Trace n) lines)
-    ∙ ap (λ (j : Judge). written judgeTurn k (benchOf j 0) lines) (sym start)
-    ∙ judged-lines n range (d .run) k 0 (ap (λ (j : Judge). j .n) start) valid (file-fuel traceLine (λ c. omega arith) (header Trace n) cs)
-    ∙ from-start _ (length cs) (report d) (ap (λ (j : Judge). j .count) start)
-  where
-    from-start : (u k : ℕ) (l : List (List Rule)) → u ≡ 0
-        → reportFrom u l ++ endLine (u + k) (0 + breaches l) ≡ reportFrom 0 l ++ endLine k (breaches l)
-    from-start u k l first = rw (first, zero-add k, zero-add (breaches l))
+    ap (λ (s : List ℕ). judgeAfter (readHeaderOf Trace s) s) (append-assoc (header Trace n) (linesOf traceLine cs) rest)
+    ∙ ap (λ (h : HeaderRead). judgeAfter h s) (written-header-reads Trace n lines range)
+    ∙ ap (λ (l : List ℕ). written judgeTurn (suc (length s)) (startTally n) l) (drop-append-seam (header Trace n) lines)
+    ∙ ap (λ (j : Judge). written judgeTurn (suc (length s)) (tallyOf j 0) lines) (sym start)
+    ∙ judged-lines n range (d .run) (suc (length s)) 0 rest last (ap (λ (j : Judge). j .n) start) valid
+    (file-fuel traceLine (λ c. omega arith) (header Trace n) cs rest)
+    (subst (λ (b : ℕ). judgeTurn (tallyOf j b) rest ≡ stops last) (sym (zero-add (breaches (report d)))) e)
+    ∙ ap (λ (u : ℕ). reportFrom u (report d) ++ last) (ap (λ (j : Judge). j .count) start)
+
+-- the judge that has taken a whole trace
+pub judged-keeps : (n : ℕ) (cs : List Cycle) (j : Judge) → Judged n cs j → (j .n ≡ n) × (j .count ≡ length cs)
+judged-keeps n cs j d =
+    let start = begun n (d .begun) .is in
+    let k = judging-keeps (d .run) in
+    let masters = ap (λ (j : Judge). j .n) start in
+    let first = ap (λ (j : Judge). j .count) start in
+    (k .0 ∙ masters, k .1 ∙ rw (first, zero-add (length cs)))
+
+-- the report on a trace that ends there
+reported-whole : (n : ℕ) (cs : List Cycle) (j : Judge) (d : Judged n cs j) → InRange n → Each (ValidCycle n) cs
+    → judgeProgram (traceFile n cs) ≡ reportFrom 0 (report d) ++ endLine (length cs) (breaches (report d))
+reported-whole n cs j d range valid =
+    let k = judged-keeps n cs j d in
+    ap judgeProgram (sym (append-nil (traceFile n cs)))
+    ∙ reported n cs j d [] (endLine (length cs) (breaches (report d))) range valid
+    (end-turn n range j (breaches (report d)) (k .0) ∙ ap (λ (c : ℕ). stops (endLine c (breaches (report d)))) (k .1))
 
 pub report-is-the-verdict : ReportIsTheVerdict
 report-is-the-verdict n cs range valid room =
     let q = every-valid-trace-is-judged n cs (range .few) (range .many) room (valid-places n cs valid) in
-    reported n cs (q .0) (q .1) range valid
+    reported-whole n cs (q .0) (q .1) range valid
     ∙ same (length cs) (report (q .1)) (brokenReport n cs) (brokenCount n cs) (exact-charges n cs (q .0) (q .1) .2) (exact-count n cs (q .0) (q .1))
   where
     same : (k : ℕ) (l m : List (List Rule)) (b : ℕ) → l ≡ m → breaches l ≡ b
         → reportFrom 0 l ++ endLine k (breaches l) ≡ reportFrom 0 m ++ endLine k b
     same k l m b e sum = rw (sum, e)
 
-pub writes-the-trace : WritesTheTrace
+-- the trace of a run from reset; then comes the rest
+pub traced : (n : ℕ) (s t : State) (xs : List Inputs) (rest last : List ℕ) → resetOf n ≡ Ready s → (r : Run arbiter s xs t)
+    → arbiterTurn t rest ≡ stops last
+    → arbiterProgram (stimulusFile n xs ++ rest) ≡ traceFile n (traceOf r) ++ last
 unfolding arbiterProgram
-writes-the-trace n s t xs began r =
+traced n s t xs rest last began r e =
     let b = reset-is n s began in
     let range : InRange n = record { few = b .few; many = b .many } in
-    let lines : List ℕ = linesOf stimulusLine xs in
-    let k : ℕ = suc (length (stimulusFile n xs)) in
-    ap (λ (h : HeaderRead). arbiterAfter h (stimulusFile n xs)) (written-header-reads Stim n lines range)
+    let lines : List ℕ = linesOf stimulusLine xs ++ rest in
+    let f : List ℕ = header Stim n ++ lines in
+    ap (λ (s : List ℕ). arbiterAfter (readHeaderOf Stim s) s) (append-assoc (header Stim n) (linesOf stimulusLine xs) rest)
+    ∙ ap (λ (h : HeaderRead). arbiterAfter h f) (written-header-reads Stim n lines range)
     ∙ ap (λ (l : List ℕ). header Trace n ++ l)
-    (ap (λ (l : List ℕ). written arbiterTurn k (resetState n) l) (drop-append-seam (header Stim n) lines)
-    ∙ ap (λ (u : State). written arbiterTurn k u lines) (sym (b .is))
-    ∙ run-lines r k (subst (λ (u : State). InRange (u .n)) (sym (b .is)) range) (file-fuel stimulusLine (λ x. omega arith) (header Stim n) xs))
+    (ap (λ (l : List ℕ). written arbiterTurn (suc (length f)) (resetState n) l) (drop-append-seam (header Stim n) lines)
+    ∙ ap (λ (u : State). written arbiterTurn (suc (length f)) u lines) (sym (b .is))
+    ∙ run-lines r (suc (length f)) rest last (subst (λ (u : State). InRange (u .n)) (sym (b .is)) range)
+    (file-fuel stimulusLine (λ x. omega arith) (header Stim n) xs rest) e)
+    ∙ sym (append-assoc (header Trace n) (linesOf traceLine (traceOf r)) last)
+
+-- the state after a run from reset
+pub run-keeps : (n : ℕ) (s t : State) (xs : List Inputs) → resetOf n ≡ Ready s → Run arbiter s xs t → Sound n t × (t .count ≡ length xs)
+run-keeps n s t xs began r =
+    let b = reset-is n s began in
+    let first : s .count ≡ 0 = ap (λ (u : State). u .count) (b .is) in
+    let start : Sound n s = subst (Sound n) (sym (b .is)) (record { formed = reset-sound n (b .few) (b .many); masters = refl }) in
+    (run-sound start r, run-count r ∙ rw (first, zero-add (length xs)))
+
+pub writes-the-trace : WritesTheTrace
+writes-the-trace n s t xs began r =
+    let k = run-keeps n s t xs began r .0 in
+    let range : InRange (t .n) = record { few = k .formed .few; many = k .formed .many } in
+    ap arbiterProgram (sym (append-nil (stimulusFile n xs)))
+    ∙ traced n s t xs [] [] began r (end-turn-of t range)
+    ∙ append-nil (traceFile n (traceOf r))
 
 -- a well-formed state takes every list of valid inputs that its count has room for
 run-of : (n : ℕ) (xs : List Inputs) (s : State) → Sound n s → s .count + length xs ≤ mostCycles → Each (ValidInputs n) xs
@@ -140,7 +183,7 @@ run-reported n s t xs range began r =
     let v = only-valid-traces-are-judged n (traceOf r) (q .0) d in (
       report d,
       subst (Each (Each (λ r. isGuarantee r ≡ false))) (sym (exact-charges n (traceOf r) (q .0) d .2)) (only-assumptions n s t xs began r),
-      reported n (traceOf r) (q .0) d range (places-valid n (traceOf r) (v .3))
+      reported-whole n (traceOf r) (q .0) d range (places-valid n (traceOf r) (v .3))
           ∙ ap (λ (k : ℕ). reportFrom 0 (report d) ++ endLine k (breaches (report d))) (shows-each r),
     )
 

@@ -17,7 +17,7 @@ use Rattle.rulebook.specs.declared.Rule.{Rule}
 use Rattle.rulebook.specs.declared.Rule.the-variants.{A1, A2, A3, A4, A5, A6, A7, A8, A9, G1, G2, G3, G4, G5, G6, G7, G8, G9, G10, G11, G12}
 use Rattle.rulebook.specs.Columns.{handover}
 use Rattle.rulebook.specs.Traces.{access, Opened, notYet, openedAt, opening, soFarAfter}
-use Rattle.rulebook.specs.Rules.{watched, cutsIncr, g2, broken, brokenAt}
+use Rattle.rulebook.specs.Rules.{isWatched, cutsIncr, g2, broken, brokenAt}
 use Rattle.promises.specs.Machines.{arbiter}
 use Rattle.promises.specs.Runs.{Run, stop, more, traceOf}
 use Rattle.promises.specs.Promises.{isGuarantee, cut, cutsLockedIncr, cutLockedIncr, BreaksNoGuarantee, CutsNoBurst}
@@ -70,7 +70,7 @@ module _ (n : ℕ) where
 
   -- a locked INCR is what G2 watches
   no-locked-cut : {s : State} {h : List Cycle} → History n s h → (x : Inputs) → cutLockedIncr (cycleOf s x ∷ h) ≡ false
-  unfolding cutLockedIncr watched
+  unfolding cutLockedIncr isWatched
   no-locked-cut {s = s} {h = h} d x = same (opening (access h)) (unfold g2 in no-g2 s x h (phase-fits d) (history-stands d))
     where
       same : (a : Opened) → (handover (cycleOf s x) && cutsIncr (cycleOf s x) a) ≡ false → (handover (cycleOf s x) && cutsLockedIncr (cycleOf s x) a) ≡ false

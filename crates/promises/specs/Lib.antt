@@ -1,7 +1,9 @@
--- The promises over whole runs, and over whole programs. Read Promises and Programs first; Runs and Machines say what their words mean, and
--- Wrong what they shut out.
+-- The promises over whole runs, over whole programs, and over a simulator's calls. Read Promises, Programs, AnyInput and Simulator first; Runs
+-- and Machines say what their words mean, and Wrong what they shut out.
 pub mod Machines
 pub mod Runs
 pub mod Promises
 pub mod Programs
+pub mod AnyInput
+pub mod Simulator
 pub mod Wrong

@@ -28,7 +28,7 @@ use Rattle.rulebook.specs.declared.Rule.{Rule}
 use Rattle.rulebook.specs.declared.Rule.the-variants.{A1, A2, A3, A4, A5, A6, A7, A8, A9, G1, G2, G3, G4, G5, G6, G7, G8, G9, G10, G11, G12}
 use Rattle.rulebook.specs.declared.Judge.{Judge}
 use Rattle.rulebook.specs.Step.{Judged, report}
-use Rattle.rulebook.specs.Columns.{granted, locked, handover, isFixed, isIncr, beats, ownersRequest}
+use Rattle.rulebook.specs.Columns.{granted, mastlocked, handover, isFixed, isIncr, beats, ownersRequest}
 use Rattle.rulebook.specs.Traces.{access, Opened, notYet, openedAt, opening, all, readies as readiesIn, soFar}
 use Rattle.rulebook.specs.Rules.{brokenAt}
 use Rattle.promises.specs.Machines.{machineOf, decision}
@@ -70,14 +70,14 @@ cut (t ∷ h) = handover t && cutsBurst t (opening (access h))
 -- a handover t cuts a locked INCR: it opened with GRANTED low and HMASTLOCK high, and its owner's request has not fallen since
 abbrev pub cutsLockedIncr : Cycle → Opened → Bool
 cutsLockedIncr t notYet = false
-cutsLockedIncr t (openedAt o later) = not (granted o) && locked o && isIncr o && all ownersRequest (t ∷ later)
+cutsLockedIncr t (openedAt o later) = not (granted o) && mastlocked o && isIncr o && all ownersRequest (t ∷ later)
 
 unfoldable pub cutLockedIncr : List Cycle → Bool
 cutLockedIncr [] = false
 cutLockedIncr (t ∷ h) = handover t && cutsLockedIncr t (opening (access h))
 
 module _ (step : State → Inputs → Answer) where
-  -- "A bad .. state .. is refused by its number, with the state handed back as it came."
+  -- "A bad .. state .. is refused by its number, with the state handed back as it came"
   abbrev pub HandsBack : Type 0
   HandsBack = (s : State) (x : Inputs) (r : Refusal) (s' : State) → step s x ≡ Refused r s' → s' ≡ s
 

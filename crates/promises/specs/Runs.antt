@@ -39,7 +39,7 @@ pub record Reached (step : State → Inputs → Answer) (n : ℕ) (t : State) : 
   pub inputs : List Inputs
   pub run : Run (machineOf step) first inputs t
 
--- "Handed" is a handover with g that master
+-- "handed to it": a handover with g that master
 abbrev pub hands : ℕ → State → Inputs → Bool
 hands i s x = handover s x && eqb (s .g) i
 

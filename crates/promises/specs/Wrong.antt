@@ -1,10 +1,11 @@
--- Four wrong arbiters, which the promises shut out (proofs/Wrong.antt). Each is a step that breaks document 01 in one place.
+-- Four wrong arbiters, each given by its step. The promises shut them out (proofs/Wrong.antt).
+-- The last three refuse exactly what the step of document 01 refuses.
 --
 --   refusing       == refuses every cycle
 --   favouring      == grants master 0 for ever
 --   untouching     == returns its state untouched
 --   repeating      == arbitrates the first cycle and then repeats its grants
-use mathlib.Core.Bool.{_&&_}
+use mathlib.Core.Bool.{false, cond}
 use lib.Dec.{eqb}
 use Rattle.rules.specs.declared.Refusal.the-variants as refusal
 use Rattle.rules.specs.declared.State.{State}
@@ -29,8 +30,7 @@ favouring s x =
 unfoldable pub untouching : State → Inputs → Answer
 untouching s x = instead (stepOf s x) (Next s (shown s (seen s x) (decides s (seen s x))))
 
--- DECIDE is high in cycle 0 alone
+-- cycle 0 is that of document 01; after it DECIDE is low and the grant stays
 unfoldable pub repeating : State → Inputs → Answer
 repeating s x =
-    instead (stepOf s x)
-    (Next (moved s x (decides s (seen s x) && eqb (s .count) 0) (s .g)) (shown s (seen s x) (decides s (seen s x) && eqb (s .count) 0)))
+    cond (eqb (s .count) 0) (stepOf s x) (instead (stepOf s x) (Next (moved s x false (s .g)) (shown s (seen s x) false)))

@@ -25,7 +25,7 @@ use Rattle.rulebook.specs.declared.Judge.{Judge}
 use Rattle.rulebook.specs.declared.Judgement.{Judgement}
 use Rattle.rulebook.specs.declared.Verdict.the-variants.{Taken, Refused}
 use Rattle.rulebook.specs.State.{startJudge, startOf, wellFormed}
-use Rattle.rulebook.specs.Charges.{judged}
+use Rattle.rulebook.specs.Charges.{nextJudge}
 use Rattle.rulebook.specs.Step.{refusedOf, takenOf, judgeOf}
 use Rattle.rulebook.specs.Promises.{Accepted}
 
@@ -72,7 +72,7 @@ module _ (j : Judge) (c : Cycle) (a : Accepted j c) where
   unfolding takenOf
   next-verdict = verdict-is (a .is)
 
-  pub next-judge : judgeOf j c .judge ≡ judged j c
+  pub next-judge : judgeOf j c .judge ≡ nextJudge j c
   unfolding takenOf
   next-judge = ap (λ (a : Judgement). a .judge) (a .is)
 

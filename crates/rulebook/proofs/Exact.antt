@@ -21,14 +21,14 @@ use Rattle.rulebook.specs.Columns.{decided, handover}
 use Rattle.rulebook.specs.Traces.{comparing, atFirst, inARow, completes, access, opening}
 use Rattle.rulebook.specs.Rules.{lockedIncr, waits, g2, g3, loses, lostInARow, limit, g11, broken}
 use Rattle.rulebook.specs.State.{startJudge}
-use Rattle.rulebook.specs.Charges.{listFrom, lostAfter, judged, comparesAt, reaches, charges}
-use Rattle.rulebook.specs.Kept.{watchIn, keptOf}
+use Rattle.rulebook.specs.Charges.{listFrom, lostAfter, nextJudge, comparesAt, reaches, charges}
+use Rattle.rulebook.specs.Kept.{accessWatch, keptOf}
 use Rattle.rulebook.proofs.Rows.{longer-row, completes-row}
 use Rattle.rulebook.proofs.Counts.{list-at, list-same, some-same, some-limit}
 use Rattle.rulebook.proofs.Watches.{opened-kept, watch-kept, watch-cuts-incr, watch-cuts-fixed}
 
 pub kept-start : (n : ℕ) → keptOf n [] ≡ startJudge n
-unfolding keptOf inARow access opening watchIn lostInARow listFrom
+unfolding keptOf inARow access opening accessWatch lostInARow listFrom
 kept-start n = rw (list-same 0 16 (λ i. 0 % limit n) (λ i. 0) (λ i h. zero-mod (limit n)))
 
 -- a judge that has taken a cycle is not at its start
@@ -48,8 +48,8 @@ lost-kept n (p ∷ h) c i pos below =
     (λ e. simp (e, counted p h, lost-at n (p ∷ h) i below) (longer-row (limit n) (lostInARow i (p ∷ h)) (loses i p c) (some-limit n pos)))
     (λ e. simp (e, counted p h) (lost-at n (p ∷ h) i below))
 
-pub kept-step : (n : ℕ) (h : List Cycle) (c : Cycle) → 0 < n → judged (keptOf n h) c ≡ keptOf n (c ∷ h)
-unfolding judged keptOf inARow
+pub kept-step : (n : ℕ) (h : List Cycle) (c : Cycle) → 0 < n → nextJudge (keptOf n h) c ≡ keptOf n (c ∷ h)
+unfolding nextJudge keptOf inARow
 kept-step n h c pos =
     rw (
       add-one (length h),

@@ -7,5 +7,10 @@ pub mod WellFormed
 pub mod Answers
 pub mod Whole
 pub mod Listed
+pub mod Named
+pub mod Once
 pub mod Promises
 pub mod Examples
+pub mod Readings
+pub mod Cases
+pub mod Refused

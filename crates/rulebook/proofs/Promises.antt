@@ -3,22 +3,29 @@ use Prim.Native.Nat.{ℕ, zero, suc, _<_}
 use mathlib.Core.Path.{_≡_, refl, sym, _∙_, ap}
 use mathlib.Core.List.{List, []}
 use native.Mathlib.Omega.{arith}
+use borrow.Author.Tests.{le-leb, lt-leb}
 use lib.ListN.{length, getD}
 use lib.Seq.{ext-getD}
 use Rattle.rules.specs.declared.Cycle.{Cycle}
+use Rattle.rules.specs.Codes.{mostCycles}
+use Rattle.rules.specs.Valid.{cycleCheck}
+use Rattle.rules.proofs.Promises.{some-number}
 use Rattle.rulebook.specs.declared.Rule.{Rule}
 use Rattle.rulebook.specs.declared.Judge.{Judge}
+use Rattle.rulebook.specs.declared.Verdict.{Verdict}
+use Rattle.rulebook.specs.declared.Verdict.the-variants.{Taken, Refused}
 use Rattle.rulebook.specs.declared.Judgement.{Judgement}
 use Rattle.rulebook.specs.Rules.{rules, brokenAt, brokenRules}
 use Rattle.rulebook.specs.State.{startJudge, startOf}
-use Rattle.rulebook.specs.Step.{refusedOf, flagged, chargedRules, Judged, report, breaches}
+use Rattle.rulebook.specs.Step.{numberOf, refusedOf, takenOf, judgeOf, flagged, chargedRules, Judged, report, breaches}
 use Rattle.rulebook.specs.Kept.{keptOf, Sound}
-use Rattle.rulebook.specs.Promises.{each, total, brokenReport, ExactCharges, ChargedWhereBroken, ExactCount, KeepsTheHistory, StaysWellFormed, TestIsFacts, NeverRefused, TakenOnlyThen, RefusalsHandBack, EveryValidTraceIsJudged, OnlyValidTracesAreJudged}
+use Rattle.rulebook.specs.Promises.{each, total, brokenReport, ExactCharges, ChargedWhereBroken, ChargedOnce, ExactCount, KeepsTheHistory, StaysWellFormed, TestIsFacts, NeverRefused, TakenOnlyThen, RefusalsHandBack, TakenByNumber, HandsBackByNumber, FirstTestAnswers, EveryValidTraceIsJudged, OnlyValidTracesAreJudged}
 use Rattle.rulebook.proofs.Exact.{kept-start}
 use Rattle.rulebook.proofs.Soundness.{start-sound}
 use Rattle.rulebook.proofs.WellFormed.{test-of, facts-of}
 use Rattle.rulebook.proofs.Answers.{accepted, taken, refused, begun, begins}
 use Rattle.rulebook.proofs.Listed.{every-rule, those-has, has-those}
+use Rattle.rulebook.proofs.Once.{those-distinct, charged-distinct, run-distinct}
 use Rattle.rulebook.proofs.Whole.{places, ends-at, charges-length, run-sound, run-of, run-limits}
 
 -- lists by their entries
@@ -97,6 +104,42 @@ unfolding refusedOf flagged
 refusals-hand-back j c r e =
     let q = refused j c r e in
     (ap (λ (a : Judgement). a .judge) q, ap (λ (a : Judgement). chargedRules a) q)
+
+pub charged-once : ChargedOnce
+unfolding brokenRules
+charged-once = (
+  λ j c. charged-distinct (judgeOf j c),
+  λ n trace j d t. run-distinct (d .run) t,
+  λ n trace t. those-distinct (λ r. brokenAt n r trace t),
+)
+
+-- a verdict by its number
+zero-taken : (v : Verdict) → numberOf v ≡ 0 → v ≡ Taken
+zero-taken Taken e = refl
+zero-taken (Refused r) e = absurd (some-number r e)
+
+pub taken-by-number : TakenByNumber
+taken-by-number j c e = taken j c (zero-taken (judgeOf j c .verdict) e)
+
+pub hands-back-by-number : HandsBackByNumber
+hands-back-by-number j c ne = go (judgeOf j c .verdict) refl
+  where
+    go : (v : Verdict) → judgeOf j c .verdict ≡ v → (judgeOf j c .judge ≡ j) × (chargedRules (judgeOf j c) ≡ [])
+    go Taken e = absurd (ne (ap numberOf e))
+    go (Refused r) e = refusals-hand-back j c r e
+
+pub first-test-answers : FirstTestAnswers
+unfolding judgeOf refusedOf takenOf cycleCheck
+first-test-answers j c =
+    record {
+      ten = λ bad. rw bad;
+      eight = λ sound full. rw (sound, le-leb mostCycles (j .count) full);
+      four = λ sound room v. rw (sound, lt-leb mostCycles (j .count) room, v);
+      five = λ sound room v u. rw (sound, lt-leb mostCycles (j .count) room, v, u);
+      six = λ sound room v u a. rw (sound, lt-leb mostCycles (j .count) room, v, u, a);
+      seven = λ sound room v u a o. rw (sound, lt-leb mostCycles (j .count) room, v, u, a, o);
+      none = λ sound room v u a o. rw (sound, lt-leb mostCycles (j .count) room, v, u, a, o);
+    }
 
 pub every-valid-trace-is-judged : EveryValidTraceIsJudged
 unfolding startOf

@@ -26,9 +26,9 @@ use Rattle.rulebook.specs.declared.Watch.the-variants.{Nothing, OnG2, On
 use Rattle.rulebook.specs.declared.Judge.{Judge}
 use Rattle.rulebook.specs.Columns.{isReady, ownersRequest, handover}
 use Rattle.rulebook.specs.Traces.{opens}
-use Rattle.rulebook.specs.Rules.{lockedIncr, waits, watched, loses, limit}
+use Rattle.rulebook.specs.Rules.{lockedIncr, waits, isWatched, loses, limit}
 use Rattle.rulebook.specs.State.{noCycle, startJudge, watchOk}
-use Rattle.rulebook.specs.Charges.{watchFor, watchOf, watchFrom, watchOn, openedAfter, watchAfter, afterDecision, lostAfter, judged}
+use Rattle.rulebook.specs.Charges.{g3With, burstWatch, openingWatch, laterWatch, openedAfter, watchAfter, afterDecision, lostAfter, nextJudge}
 use Rattle.rulebook.specs.Kept.{Sound}
 use Rattle.rulebook.proofs.Rows.{longer-below}
 use Rattle.rulebook.proofs.Counts.{list-at, list-length, some-limit}
@@ -72,26 +72,26 @@ lost-absent j s c i below out =
     (λ _. s .absent i below out)
 
 -- the watch
-for-ok : (k : ℕ) → k ≤ longestBurst - 1 → watchOk true (watchFor k) ≡ true
+for-ok : (k : ℕ) → k ≤ longestBurst - 1 → watchOk true (g3With k) ≡ true
 for-ok k top =
     cond-elim (λ (w : Watch). watchOk true w ≡ true) (eqb k 0) (λ _. refl)
     (λ e. and-both (le-leb 1 k (omega (arith, eqb-false k 0 e))) (le-leb k 3 top))
 
-of-ok : (b : Burst) → BeatsOk b → watchOk true (watchOf b) ≡ true
+of-ok : (b : Burst) → BeatsOk b → watchOk true (burstWatch b) ≡ true
 of-ok burst.Single h = refl
 of-ok burst.Unspecified h = refl
 of-ok (burst.Fixed b) h = for-ok (b - 1) (omega (arith, h .1))
 of-ok burst.NotBuilt h = refl
 of-ok burst.NoCode h = refl
 
-from-ok : (c : Cycle) → watchOk true (watchFrom c) ≡ true
-unfolding watchFrom
+from-ok : (c : Cycle) → watchOk true (openingWatch c) ≡ true
+unfolding openingWatch
 from-ok c =
-    cond-elim (λ (w : Watch). watchOk true w ≡ true) (watched c)
+    cond-elim (λ (w : Watch). watchOk true w ≡ true) (isWatched c)
     (λ _. of-ok (burstOf (c .inputs .hburst)) (built-burst (c .inputs .hburst)))
     (λ _. refl)
 
-on-ok : (w : Watch) (c : Cycle) → watchOk true w ≡ true → watchOk true (watchOn w c) ≡ true
+on-ok : (w : Watch) (c : Cycle) → watchOk true w ≡ true → watchOk true (laterWatch w c) ≡ true
 on-ok Nothing c h = refl
 on-ok OnG2 c h = cond-elim (λ (w : Watch). watchOk true w ≡ true) (ownersRequest c) (λ _. refl) (λ _. refl)
 on-ok (OnG3 k) c h =
@@ -100,14 +100,14 @@ on-ok (OnG3 k) c h =
 
 -- over plain flags: x is a handover, o whether the access has opened, s whether it opens now
 after-ok : (x o s : Bool) (w : Watch) (c : Cycle) → watchOk o w ≡ true
-    → watchOk (cond x false (o || s)) (cond x Nothing (cond o (watchOn w c) (cond s (watchFrom c) Nothing))) ≡ true
+    → watchOk (cond x false (o || s)) (cond x Nothing (cond o (laterWatch w c) (cond s (openingWatch c) Nothing))) ≡ true
 after-ok true o s w c h = refl
 after-ok false true s w c h = on-ok w c h
 after-ok false false true w c h = from-ok c
 after-ok false false false w c h = refl
 
-pub step-sound : (j : Judge) (c : Cycle) → Sound j → cycleCheck (j .n) c ≡ Good → j .count < mostCycles → Sound (judged j c)
-unfolding judged openedAfter watchAfter
+pub step-sound : (j : Judge) (c : Cycle) → Sound j → cycleCheck (j .n) c ≡ Good → j .count < mostCycles → Sound (nextJudge j c)
+unfolding nextJudge openedAfter watchAfter
 step-sound j c s good room =
     record {
       few = s .few;

@@ -18,41 +18,41 @@ use Rattle.rules.proofs.Choice.{either, and-right}
 use Rattle.rulebook.specs.declared.Watch.the-variants.{Nothing, OnG2}
 use Rattle.rulebook.specs.Columns.{isReady, granted, unspecified, beatsOf, ownersRequest, handover}
 use Rattle.rulebook.specs.Traces.{access, opens, Opened, notYet, openedAt, further, opening, all, readies}
-use Rattle.rulebook.specs.Rules.{watched, cutsIncr, cutsFixed}
-use Rattle.rulebook.specs.Charges.{watchFor, watchOf, watchFrom, watchOn, openedAfter, watchAfter, onG2, onG3}
-use Rattle.rulebook.specs.Kept.{hasOpened, watchBy, watchIn, keptOf}
+use Rattle.rulebook.specs.Rules.{isWatched, cutsIncr, cutsFixed}
+use Rattle.rulebook.specs.Charges.{g3With, burstWatch, openingWatch, laterWatch, openedAfter, watchAfter, onG2, onG3}
+use Rattle.rulebook.specs.Kept.{hasOpened, heldWatch, accessWatch, keptOf}
 
 -- a watch of G3 with k ready cycles left
-for-on : (k : ℕ) (c : Cycle) → watchOn (watchFor k) c ≡ cond (isReady c) (watchFor (k - 1)) (watchFor k)
+for-on : (k : ℕ) (c : Cycle) → laterWatch (g3With k) c ≡ cond (isReady c) (g3With (k - 1)) (g3With k)
 for-on zero c = either (isReady c) (λ e. rw e) (λ e. rw e)
 for-on (suc k) c = rw (eqb·suc-zero k)
 
-for-no-g2 : (k : ℕ) → onG2 (watchFor k) ≡ false
+for-no-g2 : (k : ℕ) → onG2 (g3With k) ≡ false
 for-no-g2 zero = refl
 for-no-g2 (suc k) = rw (eqb·suc-zero k)
 
-for-g3 : (k : ℕ) → onG3 (watchFor k) ≡ ltb 1 k
+for-g3 : (k : ℕ) → onG3 (g3With k) ≡ ltb 1 k
 for-g3 zero = refl
 for-g3 (suc k) = rw (eqb·suc-zero k)
 
 -- over the sort of the burst: the opening itself, and a later cycle
-by-opening : (b : Burst) → watchOf b ≡ watchBy b true 0
+by-opening : (b : Burst) → burstWatch b ≡ heldWatch b true 0
 by-opening burst.Single = refl
 by-opening burst.Unspecified = refl
 by-opening (burst.Fixed b) = let z : b - 1 - 0 ≡ b - 1 = omega arith in rw z
 by-opening burst.NotBuilt = refl
 by-opening burst.NoCode = refl
 
-held-on : (held : Bool) (c : Cycle) → watchOn (cond held OnG2 Nothing) c ≡ cond (ownersRequest c && held) OnG2 Nothing
+held-on : (held : Bool) (c : Cycle) → laterWatch (cond held OnG2 Nothing) c ≡ cond (ownersRequest c && held) OnG2 Nothing
 held-on true c = rw (and-true (ownersRequest c))
 held-on false c = rw (and-false (ownersRequest c))
 
-beats-on : (k r : ℕ) (ready : Bool) → cond ready (watchFor (k - r - 1)) (watchFor (k - r)) ≡ watchFor (k - (cond ready 1 0 + r))
+beats-on : (k r : ℕ) (ready : Bool) → cond ready (g3With (k - r - 1)) (g3With (k - r)) ≡ g3With (k - (cond ready 1 0 + r))
 beats-on k r true = let z : k - (1 + r) ≡ k - r - 1 = omega arith in rw z
 beats-on k r false = let z : k - (0 + r) ≡ k - r = omega arith in rw z
 
 by-later : (b : Burst) (held : Bool) (r : ℕ) (c : Cycle)
-    → watchOn (watchBy b held r) c ≡ watchBy b (ownersRequest c && held) (cond (isReady c) 1 0 + r)
+    → laterWatch (heldWatch b held r) c ≡ heldWatch b (ownersRequest c && held) (cond (isReady c) 1 0 + r)
 by-later burst.Single held r c = refl
 by-later burst.Unspecified held r c = held-on held c
 by-later (burst.Fixed b) held r c = for-on (b - 1 - r) c ∙ beats-on (b - 1) r (isReady c)
@@ -64,12 +64,12 @@ opened-further notYet c = either (opens c) (λ e. rw e) (λ e. rw e)
 opened-further (openedAt o later) c = refl
 
 watch-further : (o : Opened) (c : Cycle)
-    → cond (hasOpened o) (watchOn (watchIn o) c) (cond (opens c) (watchFrom c) Nothing) ≡ watchIn (further c o)
-unfolding watchFrom watchIn all readies
+    → cond (hasOpened o) (laterWatch (accessWatch o) c) (cond (opens c) (openingWatch c) Nothing) ≡ accessWatch (further c o)
+unfolding openingWatch accessWatch all readies
 watch-further notYet c =
     either (opens c) (λ e. rw (e, by-opening (burstOf (c .inputs .hburst)))) (λ e. rw e)
 watch-further (openedAt o later) c =
-    either (watched o)
+    either (isWatched o)
     (λ e. rw e (by-later (burstOf (o .inputs .hburst)) (all ownersRequest later) (readies later) c))
     (λ e. rw e)
 
@@ -78,12 +78,12 @@ pub opened-kept : (n : ℕ) (h : List Cycle) (c : Cycle) → openedAfter (keptOf
 unfolding openedAfter keptOf access opening
 opened-kept n h c = either (handover c) (λ e. rw e) (λ e. rw e (opened-further (opening (access h)) c))
 
-pub watch-kept : (n : ℕ) (h : List Cycle) (c : Cycle) → watchAfter (keptOf n h) c ≡ watchIn (opening (access (c ∷ h)))
-unfolding watchAfter keptOf access opening watchIn
+pub watch-kept : (n : ℕ) (h : List Cycle) (c : Cycle) → watchAfter (keptOf n h) c ≡ accessWatch (opening (access (c ∷ h)))
+unfolding watchAfter keptOf access opening accessWatch
 watch-kept n h c = either (handover c) (λ e. rw e) (λ e. rw e (watch-further (opening (access h)) c))
 
 -- over the sort of the burst: at a handover
-by-cuts-incr : (b : Burst) (held request : Bool) (r : ℕ) → (onG2 (watchBy b held r) && request) ≡ (unspecified b && (request && held))
+by-cuts-incr : (b : Burst) (held request : Bool) (r : ℕ) → (onG2 (heldWatch b held r) && request) ≡ (unspecified b && (request && held))
 by-cuts-incr burst.Single held request r = refl
 by-cuts-incr burst.Unspecified true request r = sym (and-true request)
 by-cuts-incr burst.Unspecified false request r = sym (and-false request)
@@ -91,11 +91,11 @@ by-cuts-incr (burst.Fixed b) held request r = rw (for-no-g2 (b - 1 - r))
 by-cuts-incr burst.NotBuilt held request r = refl
 by-cuts-incr burst.NoCode held request r = refl
 
-pub watch-cuts-incr : (o : Opened) (c : Cycle) → (onG2 (watchIn o) && ownersRequest c) ≡ cutsIncr c o
-unfolding watchIn all
+pub watch-cuts-incr : (o : Opened) (c : Cycle) → (onG2 (accessWatch o) && ownersRequest c) ≡ cutsIncr c o
+unfolding accessWatch all
 watch-cuts-incr notYet c = refl
 watch-cuts-incr (openedAt o later) c =
-    either (watched o)
+    either (isWatched o)
     (λ e. rw e (by-cuts-incr (burstOf (o .inputs .hburst)) (all ownersRequest later) (ownersRequest c) (readies later)))
     (λ e. rw e)
 
@@ -109,7 +109,7 @@ beats-left b r =
     let l = ltb-false (1 + r) (b - 1) e in
     rw (e, and-false (ltb 0 b)) (le-ltb 1 (b - 1 - r) (omega arith)))
 
-by-cuts-fixed : (b : Burst) (held : Bool) (r : ℕ) → onG3 (watchBy b held r) ≡ (ltb 0 (beatsOf b) && ltb (1 + r) (beatsOf b - 1))
+by-cuts-fixed : (b : Burst) (held : Bool) (r : ℕ) → onG3 (heldWatch b held r) ≡ (ltb 0 (beatsOf b) && ltb (1 + r) (beatsOf b - 1))
 by-cuts-fixed burst.Single held r = refl
 by-cuts-fixed burst.Unspecified true r = refl
 by-cuts-fixed burst.Unspecified false r = refl
@@ -117,11 +117,11 @@ by-cuts-fixed (burst.Fixed b) held r = for-g3 (b - 1 - r) ∙ beats-left b r
 by-cuts-fixed burst.NotBuilt held r = refl
 by-cuts-fixed burst.NoCode held r = refl
 
-pub watch-cuts-fixed : (o : Opened) (c : Cycle) → handover c ≡ true → onG3 (watchIn o) ≡ cutsFixed c o
-unfolding watchIn readies handover
+pub watch-cuts-fixed : (o : Opened) (c : Cycle) → handover c ≡ true → onG3 (accessWatch o) ≡ cutsFixed c o
+unfolding accessWatch readies handover
 watch-cuts-fixed notYet c e = refl
 watch-cuts-fixed (openedAt o later) c e =
     let ready = and-right (granted c) (isReady c) e in
-    either (watched o)
+    either (isWatched o)
     (λ w. rw (w, ready) (by-cuts-fixed (burstOf (o .inputs .hburst)) (all ownersRequest later) (readies later)))
     (λ w. rw w)

@@ -19,9 +19,9 @@ use Rattle.rules.specs.Valid.{cycleCheck}
 use Rattle.rulebook.specs.declared.Rule.{Rule}
 use Rattle.rulebook.specs.declared.Judge.{Judge}
 use Rattle.rulebook.specs.declared.Judgement.{Judgement}
-use Rattle.rulebook.specs.Traces.{soFarAfter}
+use Rattle.rulebook.specs.Traces.{soFarAfter, newestFirst}
 use Rattle.rulebook.specs.Rules.{rules, those, broken}
-use Rattle.rulebook.specs.Charges.{judged, charges}
+use Rattle.rulebook.specs.Charges.{nextJudge, charges}
 use Rattle.rulebook.specs.Step.{takenOf, judgeOf, flagged, chargedRules, Judging, ends, takes, chargesIn}
 use Rattle.rulebook.specs.Kept.{keptOf, Sound}
 use Rattle.rulebook.specs.Promises.{ValidTrace, Accepted}
@@ -43,7 +43,7 @@ flagged-those f (r ∷ l) = rw (flagged-those f l)
 module _ (n : ℕ) (pos : 0 < n) where
   -- from a word about the history h to one about c ∷ h
   kept-next : (j : Judge) (c : Cycle) (h : List Cycle) → Accepted j c → j ≡ keptOf n h → judgeOf j c .judge ≡ keptOf n (c ∷ h)
-  kept-next j c h a e = next-judge j c a ∙ ap (λ (k : Judge). judged k c) e ∙ kept-step n h c pos
+  kept-next j c h a e = next-judge j c a ∙ ap (λ (k : Judge). nextJudge k c) e ∙ kept-step n h c pos
 
   charged-broken : (j : Judge) (c : Cycle) (h : List Cycle) → Accepted j c → j ≡ keptOf n h
       → chargedRules (judgeOf j c) ≡ those (λ r. broken n r (c ∷ h)) rules
@@ -61,8 +61,8 @@ module _ (n : ℕ) (pos : 0 < n) where
   places (takes {j = j} {c = c} p r) h e (suc t) below =
       places r (c ∷ h) (kept-next j c h (taken j c p) e) t (omega arith)
 
-  pub ends-at : {j k : Judge} {l : List Cycle} → Judging j l k → (h : List Cycle) → j ≡ keptOf n h → k ≡ keptOf n (soFarAfter h l (length l))
-  unfolding soFarAfter
+  pub ends-at : {j k : Judge} {l : List Cycle} → Judging j l k → (h : List Cycle) → j ≡ keptOf n h → k ≡ keptOf n (newestFirst h l)
+  unfolding newestFirst
   ends-at ends h e = e
   ends-at (takes {j = j} {c = c} p r) h e = ends-at r (c ∷ h) (kept-next j c h (taken j c p) e)
 
@@ -80,11 +80,11 @@ run-sound (takes {j = j} {c = c} p r) s = run-sound r (next-sound j c (taken j c
 
 -- the limits of a run: the count has room, and each cycle is valid
 next-count : (j : Judge) (c : Cycle) → Accepted j c → judgeOf j c .judge .count ≡ j .count + 1
-unfolding judged
+unfolding nextJudge
 next-count j c a = ap (λ (k : Judge). k .count) (next-judge j c a)
 
 next-n : (j : Judge) (c : Cycle) → Accepted j c → judgeOf j c .judge .n ≡ j .n
-unfolding judged
+unfolding nextJudge
 next-n j c a = ap (λ (k : Judge). k .n) (next-judge j c a)
 
 pub run-of : (l : List Cycle) (j : Judge) → Sound j → j .count + length l ≤ mostCycles → ValidTrace (j .n) l → (k : Judge) × Judging j l k

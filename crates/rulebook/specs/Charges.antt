@@ -1,10 +1,10 @@
 -- What the judge charges at a cycle, and what it keeps for the next.
 --
 --   longer k f r       == a run length r after one more cycle: 0 where f fails, and 0 again where it reaches k
---   watchFrom o        == the watch that an opening starts
---   watchOn w c        == the watch after a later cycle that is no handover
+--   openingWatch o        == the watch that an opening starts
+--   laterWatch w c        == the watch after a later cycle that is no handover
 --   openedAfter, watchAfter, lostAfter == the judge's fields after a cycle
---   judged j c         == the judge after the cycle c
+--   nextJudge j c         == the judge after the cycle c
 --   charges j c r      == the judge j charges the rule r at the cycle c
 use Prim.Native.Nat.{ℕ, zero, suc, _+_, _-_}
 use mathlib.Core.Bool.{Bool, true, false, not, _&&_, _||_, cond}
@@ -22,38 +22,38 @@ use Rattle.rulebook.specs.declared.Watch.the-variants.{Nothing, OnG2, On
 use Rattle.rulebook.specs.declared.Judge.{Judge}
 use Rattle.rulebook.specs.Columns.{isReady, decided, ownersRequest, handover, someMaster}
 use Rattle.rulebook.specs.Traces.{opens}
-use Rattle.rulebook.specs.Rules.{lockedIncr, waits, watched, loses, limit, a3, a4, a5, a6, a7, a8, a9, g1, g4, g5, g6, g7, g8, g9, g10, g12}
+use Rattle.rulebook.specs.Rules.{lockedIncr, waits, isWatched, loses, limit, a3, a4, a5, a6, a7, a8, a9, g1, g4, g5, g6, g7, g8, g9, g10, g12}
 
 abbrev pub longer : ℕ → Bool → ℕ → ℕ
 longer k f r = cond f (cond (eqb (r + 1) k) 0 (r + 1)) 0
 
 -- G3 with k ready cycles left, and none where there are none
-abbrev pub watchFor : ℕ → Watch
-watchFor k = cond (eqb k 0) Nothing (OnG3 k)
+abbrev pub g3With : ℕ → Watch
+g3With k = cond (eqb k 0) Nothing (OnG3 k)
 
 -- G2 for INCR; G3 for a fixed burst, whose beats after the first are to come
-abbrev pub watchOf : Burst → Watch
-watchOf burst.Single = Nothing
-watchOf burst.Unspecified = OnG2
-watchOf (burst.Fixed b) = watchFor (b - 1)
-watchOf burst.NotBuilt = Nothing
-watchOf burst.NoCode = Nothing
+abbrev pub burstWatch : Burst → Watch
+burstWatch burst.Single = Nothing
+burstWatch burst.Unspecified = OnG2
+burstWatch (burst.Fixed b) = g3With (b - 1)
+burstWatch burst.NotBuilt = Nothing
+burstWatch burst.NoCode = Nothing
 
-unfoldable pub watchFrom : Cycle → Watch
-watchFrom o = cond (watched o) (watchOf (burstOf (o .inputs .hburst))) Nothing
+unfoldable pub openingWatch : Cycle → Watch
+openingWatch o = cond (isWatched o) (burstWatch (burstOf (o .inputs .hburst))) Nothing
 
 -- G2's is released by owner's request low, G3's counts ready cycles
-abbrev pub watchOn : Watch → Cycle → Watch
-watchOn Nothing c = Nothing
-watchOn OnG2 c = cond (ownersRequest c) OnG2 Nothing
-watchOn (OnG3 k) c = cond (isReady c) (watchFor (k - 1)) (OnG3 k)
+abbrev pub laterWatch : Watch → Cycle → Watch
+laterWatch Nothing c = Nothing
+laterWatch OnG2 c = cond (ownersRequest c) OnG2 Nothing
+laterWatch (OnG3 k) c = cond (isReady c) (g3With (k - 1)) (OnG3 k)
 
 unfoldable pub openedAfter : Judge → Cycle → Bool
 openedAfter j c = cond (handover c) false (j .opened || opens c)
 
 unfoldable pub watchAfter : Judge → Cycle → Watch
 watchAfter j c =
-    cond (handover c) Nothing (cond (j .opened) (watchOn (j .watch) c) (cond (opens c) (watchFrom c) Nothing))
+    cond (handover c) Nothing (cond (j .opened) (laterWatch (j .watch) c) (cond (opens c) (openingWatch c) Nothing))
 
 -- the previous cycle of a judge that has one had DECIDE
 abbrev pub afterDecision : Judge → Bool
@@ -68,8 +68,8 @@ unfoldable pub listFrom : ℕ → ℕ → (ℕ → ℕ) → List ℕ
 listFrom i zero f = []
 listFrom i (suc k) f = f i ∷ listFrom (i + 1) k f
 
-unfoldable pub judged : Judge → Cycle → Judge
-judged j c =
+unfoldable pub nextJudge : Judge → Cycle → Judge
+nextJudge j c =
     record {
       n = j .n;
       count = j .count + 1;

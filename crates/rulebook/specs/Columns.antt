@@ -3,7 +3,8 @@
 --   isReady c, isIdle c, isNonseq c, isSeq c == HREADY high; HTRANS IDLE, NONSEQ, SEQ
 --   isIncr c           == HBURST is INCR
 --   beats c            == the beats of the fixed burst that HBURST names, 0 where it names none
---   locked c, decided c, granted c == HMASTLOCK, DECIDE, GRANTED high
+--   isFixed c          == it names one
+--   mastlocked c, decided c, granted c == HMASTLOCK, DECIDE, GRANTED high
 --   requested c        == some HBUSREQ is high
 --   request i c, lock i c, grant i c == HBUSREQ, HLOCK, HGRANT of master i
 --   ownersRequest c    == HBUSREQ of HMASTER
@@ -55,8 +56,8 @@ beats c = beatsOf (burstOf (c .inputs .hburst))
 abbrev pub isFixed : Cycle → Bool
 isFixed c = ltb 0 (beats c)
 
-abbrev pub locked : Cycle → Bool
-locked c = eqb (c .outputs .hmastlock) 1
+abbrev pub mastlocked : Cycle → Bool
+mastlocked c = eqb (c .outputs .hmastlock) 1
 
 abbrev pub decided : Cycle → Bool
 decided c = eqb (c .outputs .decide) 1
@@ -80,7 +81,7 @@ grant i c = high (c .outputs .hgrant) i
 unfoldable pub ownersRequest : Cycle → Bool
 ownersRequest c = high (c .inputs .hbusreq) (c .outputs .hmaster)
 
--- "A handover is a cycle with GRANTED and HREADY both high."
+-- "A handover is a cycle with GRANTED and HREADY both high"
 unfoldable pub handover : Cycle → Bool
 handover c = granted c && isReady c
 

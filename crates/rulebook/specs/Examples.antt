@@ -5,6 +5,7 @@
 --   printed g          == the page's printed run of three masters, with HGRANT g in cycle 8 (0004 is printed)
 --   upToOpening b d    == the start of a run of two masters: master 1 locks, is granted, and opens a burst of code b in cycle 3
 --   cut, released, second, third == such runs with the handover that ends the access
+--   clean k, last k rs == no breach in k cycles; and then the rules rs are broken in the last
 --   looks, wanted      == what the rules say of the runs, and what the page says
 --   table              == the two agree (proofs/Examples.antt)
 use Prim.Native.Nat.{ℕ}
@@ -15,7 +16,7 @@ use Rattle.rulebook.specs.declared.Rule.the-variants.{G2, G3, G6, G9}
 use Rattle.rulebook.specs.Promises.{each, brokenReport, brokenCount}
 
 -- HBUSREQ, HLOCK, HREADY, HTRANS, HBURST, HGRANT, HMASTER, HMASTLOCK, DECIDE, GRANTED, BUSREQ
-abbrev line : ℕ → ℕ → ℕ → ℕ → ℕ → ℕ → ℕ → ℕ → ℕ → ℕ → ℕ → Cycle
+abbrev pub line : ℕ → ℕ → ℕ → ℕ → ℕ → ℕ → ℕ → ℕ → ℕ → ℕ → ℕ → Cycle
 line hbusreq hlock hready htrans hburst hgrant hmaster hmastlock decide granted busreq =
     record {
       inputs = record { hbusreq = hbusreq; hlock = hlock; hready = hready; htrans = htrans; hburst = hburst };
@@ -73,10 +74,10 @@ third b =
     ∷ [])
 
 -- no breach in k cycles, and then what is broken in the last
-abbrev clean : ℕ → List (List Rule)
+abbrev pub clean : ℕ → List (List Rule)
 clean k = each k (λ t. [])
 
-abbrev last : ℕ → List Rule → List (List Rule)
+abbrev pub last : ℕ → List Rule → List (List Rule)
 last k broken = clean k ++ (broken ∷ [])
 
 -- what the rules say of a trace of n masters: the broken rules of each cycle, and how many they are

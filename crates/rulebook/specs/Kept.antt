@@ -1,6 +1,6 @@
 -- What the judge keeps is a word about what was recorded: its state after a history, as a function of that history.
 --
---   watchIn o          == the watch in an access at its opening
+--   accessWatch o          == the watch in an access at its opening
 --   keptOf n h         == the judge after the history h
 --   Sound j            == a well-formed judge, as facts
 use Prim.Native.Nat.{ℕ, _-_, _%_, _≤_, _<_}
@@ -19,9 +19,9 @@ use Rattle.rulebook.specs.declared.Watch.the-variants.{Nothing, OnG2}
 use Rattle.rulebook.specs.declared.Judge.{Judge}
 use Rattle.rulebook.specs.Columns.{ownersRequest}
 use Rattle.rulebook.specs.Traces.{inARow, access, Opened, notYet, openedAt, opening, all, readies}
-use Rattle.rulebook.specs.Rules.{lockedIncr, waits, watched, limit, lostInARow}
+use Rattle.rulebook.specs.Rules.{lockedIncr, waits, isWatched, limit, lostInARow}
 use Rattle.rulebook.specs.State.{noCycle, watchOk, startJudge}
-use Rattle.rulebook.specs.Charges.{watchFor, listFrom}
+use Rattle.rulebook.specs.Charges.{g3With, listFrom}
 
 abbrev pub latest : List Cycle → Cycle
 latest [] = noCycle
@@ -32,17 +32,17 @@ hasOpened notYet = false
 hasOpened (openedAt o later) = true
 
 -- of a watched opening of this burst: held is whether owner's request was high in every later cycle, r the later ready cycles
-abbrev pub watchBy : Burst → Bool → ℕ → Watch
-watchBy burst.Single held r = Nothing
-watchBy burst.Unspecified held r = cond held OnG2 Nothing
-watchBy (burst.Fixed b) held r = watchFor (b - 1 - r)
-watchBy burst.NotBuilt held r = Nothing
-watchBy burst.NoCode held r = Nothing
+abbrev pub heldWatch : Burst → Bool → ℕ → Watch
+heldWatch burst.Single held r = Nothing
+heldWatch burst.Unspecified held r = cond held OnG2 Nothing
+heldWatch (burst.Fixed b) held r = g3With (b - 1 - r)
+heldWatch burst.NotBuilt held r = Nothing
+heldWatch burst.NoCode held r = Nothing
 
-unfoldable pub watchIn : Opened → Watch
-watchIn notYet = Nothing
-watchIn (openedAt o later) =
-    cond (watched o) (watchBy (burstOf (o .inputs .hburst)) (all ownersRequest later) (readies later)) Nothing
+unfoldable pub accessWatch : Opened → Watch
+accessWatch notYet = Nothing
+accessWatch (openedAt o later) =
+    cond (isWatched o) (heldWatch (burstOf (o .inputs .hburst)) (all ownersRequest later) (readies later)) Nothing
 
 unfoldable pub keptOf : ℕ → List Cycle → Judge
 keptOf n h =
@@ -53,7 +53,7 @@ keptOf n h =
       locked = inARow lockedIncr h % 1024;
       waited = inARow waits h % 17;
       opened = hasOpened (opening (access h));
-      watch = watchIn (opening (access h));
+      watch = accessWatch (opening (access h));
       lost = listFrom 0 mostMasters (λ i. lostInARow i h % limit n);
     }
 

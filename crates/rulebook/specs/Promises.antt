@@ -7,24 +7,27 @@
 --   brokenCount n trace  == how many they are in all
 --   wholeOf trace      == the history of the whole trace
 --   ValidTrace n trace == no cycle of the trace meets one of the refusals 4, 5, 6 and 7
+--   Distinct l         == no rule stands twice in the list l
+--   Accepted j c       == nothing is refused, and the step is taken
+--   NumberOf j c       == the number that the step answers, test by test
 use Prim.Native.Nat.{ℕ, zero, suc, _+_, _≤_, _<_}
 use mathlib.Core.Path.{_≡_}
 use mathlib.Core.Logic.{_↔_}
-use mathlib.Core.Bool.{true}
+use mathlib.Core.Bool.{true, false, _||_}
 use mathlib.Core.List.{List, [], _∷_, List·Memᴰ}
 use lib.ListN.{length, getD}
 use Rattle.rules.specs.declared.Refusal.{Refusal}
 use Rattle.rules.specs.declared.Check.the-variants.{Good}
 use Rattle.rules.specs.declared.Cycle.{Cycle}
 use Rattle.rules.specs.Codes.{fewestMasters, mostMasters, mostCycles}
-use Rattle.rules.specs.Valid.{cycleCheck}
+use Rattle.rules.specs.Valid.{inputsTooLarge, outputsTooLarge, inputsNotBuilt, inputsAbsent, outputsAbsent, ownerAbsent, cycleCheck}
 use Rattle.rulebook.specs.declared.Rule.{Rule}
 use Rattle.rulebook.specs.declared.Judge.{Judge}
 use Rattle.rulebook.specs.declared.Verdict.the-variants.{Taken, Refused}
-use Rattle.rulebook.specs.Traces.{soFar}
+use Rattle.rulebook.specs.Traces.{newestFirst}
 use Rattle.rulebook.specs.Rules.{brokenAt, brokenRules}
 use Rattle.rulebook.specs.State.{noCycle, wellFormed}
-use Rattle.rulebook.specs.Step.{takenOf, judgeOf, chargedRules, Judged, report, breaches}
+use Rattle.rulebook.specs.Step.{numberOf, takenOf, judgeOf, chargedRules, Judged, report, breaches}
 use Rattle.rulebook.specs.Kept.{keptOf, Sound}
 
 unfoldable pub each : {A : Type 0} → ℕ → (ℕ → A) → List A
@@ -42,9 +45,8 @@ brokenReport n trace = each (length trace) (brokenRules n trace)
 abbrev pub brokenCount : ℕ → List Cycle → ℕ
 brokenCount n trace = total (length trace) (λ t. length (brokenRules n trace t))
 
--- past the last cycle nothing more comes
 abbrev pub wholeOf : List Cycle → List Cycle
-wholeOf trace = soFar trace (length trace)
+wholeOf trace = newestFirst [] trace
 
 abbrev pub ValidTrace : ℕ → List Cycle → Type 0
 ValidTrace n trace = (t : ℕ) → t < length trace → cycleCheck n (getD trace t noCycle) ≡ Good
@@ -62,6 +64,17 @@ abbrev pub ChargedWhereBroken : Type 0
 ChargedWhereBroken = (n : ℕ) (trace : List Cycle) (j : Judge) (d : Judged n trace j) (t : ℕ) → t < length trace
     → (r : Rule) → List·Memᴰ r (getD (report d) t []) ↔ (brokenAt n r trace t ≡ true)
 
+-- "Each rule is charged at most once a cycle": no rule stands twice in what a step charges, nor in the report of a cycle, nor among the
+-- rules that are broken at one.
+abbrev pub Distinct : List Rule → Type 0
+Distinct [] = Unit {0}
+Distinct (r ∷ l) = (List·Memᴰ r l → ⊥) × Distinct l
+
+abbrev pub ChargedOnce : Type 0
+ChargedOnce = ((j : Judge) (c : Cycle) → Distinct (chargedRules (judgeOf j c)))
+    × ((n : ℕ) (trace : List Cycle) (j : Judge) (d : Judged n trace j) (t : ℕ) → Distinct (getD (report d) t []))
+    × ((n : ℕ) (trace : List Cycle) (t : ℕ) → Distinct (brokenRules n trace t))
+
 -- "then `end`, tab, cycles, tab, breaches": the breaches are counted over the trace, not over the judge.
 abbrev pub ExactCount : Type 0
 ExactCount = (n : ℕ) (trace : List Cycle) (j : Judge) (d : Judged n trace j) → breaches (report d) ≡ brokenCount n trace
@@ -70,7 +83,7 @@ ExactCount = (n : ℕ) (trace : List Cycle) (j : Judge) (d : Judged n trace j) �
 abbrev pub KeepsTheHistory : Type 0
 KeepsTheHistory = (n : ℕ) (trace : List Cycle) (j : Judge) → Judged n trace j → j ≡ keptOf n (wholeOf trace)
 
--- "State records added later get such a condition in docs/, met by every state a run reaches."
+-- "State records added later get such a condition in docs/, met by every state a run reaches"
 abbrev pub StaysWellFormed : Type 0
 StaysWellFormed = (n : ℕ) (trace : List Cycle) (j : Judge) → Judged n trace j → (wellFormed j ≡ true) × Sound j
 
@@ -100,7 +113,42 @@ abbrev pub RefusalsHandBack : Type 0
 RefusalsHandBack = (j : Judge) (c : Cycle) (r : Refusal) → judgeOf j c .verdict ≡ Refused r
     → (judgeOf j c .judge ≡ j) × (chargedRules (judgeOf j c) ≡ [])
 
--- "n from 2 to 16", "at most 1,000,000 cycles a run": every trace of valid cycles within these limits is judged,
+-- The same by the numbers of the page: a step that answers 0 is one that is taken, and one that answers another number hands the judge back.
+abbrev pub TakenByNumber : Type 0
+TakenByNumber = (j : Judge) (c : Cycle) → numberOf (judgeOf j c .verdict) ≡ 0 → Accepted j c
+
+abbrev pub HandsBackByNumber : Type 0
+HandsBackByNumber = (j : Judge) (c : Cycle) → (numberOf (judgeOf j c .verdict) ≡ 0 → ⊥)
+    → (judgeOf j c .judge ≡ j) × (chargedRules (judgeOf j c) ≡ [])
+
+-- "A step of arbiter or judge: 10, 8, 4, 5, 6, 7, 11"; "The first test that applies, in the order given here, answers." The judge decides
+-- nothing, so 11 is never given here.
+pub record NumberOf (j : Judge) (c : Cycle) : Type 0 where
+  pub ten : wellFormed j ≡ false → numberOf (judgeOf j c .verdict) ≡ 10
+  pub eight : wellFormed j ≡ true → mostCycles ≤ j .count → numberOf (judgeOf j c .verdict) ≡ 8
+  pub four : wellFormed j ≡ true → j .count < mostCycles
+      → (inputsTooLarge (c .inputs) || outputsTooLarge (c .outputs)) ≡ true
+      → numberOf (judgeOf j c .verdict) ≡ 4
+  pub five : wellFormed j ≡ true → j .count < mostCycles
+      → (inputsTooLarge (c .inputs) || outputsTooLarge (c .outputs)) ≡ false → inputsNotBuilt (c .inputs) ≡ true
+      → numberOf (judgeOf j c .verdict) ≡ 5
+  pub six : wellFormed j ≡ true → j .count < mostCycles
+      → (inputsTooLarge (c .inputs) || outputsTooLarge (c .outputs)) ≡ false → inputsNotBuilt (c .inputs) ≡ false
+      → (inputsAbsent (j .n) (c .inputs) || outputsAbsent (j .n) (c .outputs)) ≡ true
+      → numberOf (judgeOf j c .verdict) ≡ 6
+  pub seven : wellFormed j ≡ true → j .count < mostCycles
+      → (inputsTooLarge (c .inputs) || outputsTooLarge (c .outputs)) ≡ false → inputsNotBuilt (c .inputs) ≡ false
+      → (inputsAbsent (j .n) (c .inputs) || outputsAbsent (j .n) (c .outputs)) ≡ false → ownerAbsent (j .n) (c .outputs) ≡ true
+      → numberOf (judgeOf j c .verdict) ≡ 7
+  pub none : wellFormed j ≡ true → j .count < mostCycles
+      → (inputsTooLarge (c .inputs) || outputsTooLarge (c .outputs)) ≡ false → inputsNotBuilt (c .inputs) ≡ false
+      → (inputsAbsent (j .n) (c .inputs) || outputsAbsent (j .n) (c .outputs)) ≡ false → ownerAbsent (j .n) (c .outputs) ≡ false
+      → numberOf (judgeOf j c .verdict) ≡ 0
+
+abbrev pub FirstTestAnswers : Type 0
+FirstTestAnswers = (j : Judge) (c : Cycle) → NumberOf j c
+
+-- "n from 2 to 16", "At most 1,000,000 cycles a run": every trace of valid cycles within these limits is judged,
 abbrev pub EveryValidTraceIsJudged : Type 0
 EveryValidTraceIsJudged = (n : ℕ) (trace : List Cycle)
     → fewestMasters ≤ n → n ≤ mostMasters → length trace ≤ mostCycles → ValidTrace n trace

@@ -1,5 +1,7 @@
 -- The rules A1 to A9 and G1 to G12, in the page's order and words. No word of the judge's own state is used here.
 --
+--   isWatched c        == an opening from which G2 or G3 watches
+--   lostInARow i h     == the decisions that master i has lost in a row (G11)
 --   broken n r h       == the rule r is broken at the newest cycle of the history h
 --   brokenAt n r trace t == it is broken at cycle t of the trace
 --   rules              == the rules in the order of the report
@@ -14,7 +16,7 @@ use Rattle.rules.specs.declared.Inputs.{Inputs}
 use Rattle.rules.specs.Masks.{single}
 use Rattle.rulebook.specs.declared.Rule.{Rule}
 use Rattle.rulebook.specs.declared.Rule.the-variants.{A1, A2, A3, A4, A5, A6, A7, A8, A9, G1, G2, G3, G4, G5, G6, G7, G8, G9, G10, G11, G12}
-use Rattle.rulebook.specs.Columns.{isReady, isIdle, isNonseq, isSeq, isIncr, isFixed, beats, locked, decided, granted, requested, request, lock, grant, ownersRequest, handover, someMaster}
+use Rattle.rulebook.specs.Columns.{isReady, isIdle, isNonseq, isSeq, isIncr, isFixed, beats, mastlocked, decided, granted, requested, request, lock, grant, ownersRequest, handover, someMaster}
 use Rattle.rulebook.specs.Traces.{comparing, always, atFirst, inARow, completes, access, Opened, notYet, openedAt, opening, all, readies, soFar}
 
 abbrev pub differ : ℕ → ℕ → Bool
@@ -22,7 +24,7 @@ differ a b = not (eqb a b)
 
 -- A1 (finite reading): 1,024 cycles in a row with HMASTLOCK, HBURST INCR and owner's request high.
 unfoldable pub lockedIncr : Cycle → Bool
-lockedIncr c = locked c && isIncr c && ownersRequest c
+lockedIncr c = mastlocked c && isIncr c && ownersRequest c
 
 -- A2 (finite reading): 17 cycles in a row with HREADY low; likewise.
 abbrev pub waits : Cycle → Bool
@@ -67,18 +69,18 @@ abbrev pub g1 : Cycle → Bool
 g1 t = not (Bool·beq (eqb (t .outputs .busreq) 1) (ownersRequest t))
 
 -- G2, G3: they watch an opening with GRANTED low and HMASTLOCK high.
-unfoldable pub watched : Cycle → Bool
-watched o = not (granted o) && locked o
+unfoldable pub isWatched : Cycle → Bool
+isWatched o = not (granted o) && mastlocked o
 
 -- G2 (INCR): a handover before the first later cycle with owner's request low: it is high in every later cycle, the handover among them.
 abbrev pub cutsIncr : Cycle → Opened → Bool
 cutsIncr t notYet = false
-cutsIncr t (openedAt o later) = watched o && isIncr o && all ownersRequest (t ∷ later)
+cutsIncr t (openedAt o later) = isWatched o && isIncr o && all ownersRequest (t ∷ later)
 
 -- G3 (INCR4): a handover before the third later ready cycle, which is the last beat: with the handover there are fewer.
 abbrev pub cutsFixed : Cycle → Opened → Bool
 cutsFixed t notYet = false
-cutsFixed t (openedAt o later) = watched o && isFixed o && ltb (readies (t ∷ later)) (beats o - 1)
+cutsFixed t (openedAt o later) = isWatched o && isFixed o && ltb (readies (t ∷ later)) (beats o - 1)
 
 -- "Charged at the handover, which ends the watch."
 unfoldable pub g2 : List Cycle → Bool
@@ -103,7 +105,7 @@ g6 p t = isReady p && differ (p .outputs .hgrant) (single (t .outputs .hmaster))
 
 -- G7: handover at p, some master with HLOCK and HGRANT at p, HMASTLOCK low at t.
 abbrev pub g7 : Cycle → Cycle → Bool
-g7 p t = handover p && someMaster (λ i. lock i p && grant i p) && not (locked t)
+g7 p t = handover p && someMaster (λ i. lock i p && grant i p) && not (mastlocked t)
 
 -- G8: no handover at p, and HMASTER or HMASTLOCK differs.
 abbrev pub g8 : Cycle → Cycle → Bool
@@ -144,7 +146,7 @@ g11 n h = comparing (λ p t. decided p) h && someMaster (λ i. completes (limit 
 -- G12: cycle 0 lacks HGRANT 0001, HMASTER 0, HMASTLOCK 0, GRANTED 0; or has DECIDE 0 with IDLE.
 abbrev pub g12 : Cycle → Bool
 g12 t =
-    not (eqb (t .outputs .hgrant) 1 && eqb (t .outputs .hmaster) 0 && not (locked t) && not (granted t))
+    not (eqb (t .outputs .hgrant) 1 && eqb (t .outputs .hmaster) 0 && not (mastlocked t) && not (granted t))
     || not (decided t) && isIdle t
 
 unfoldable pub broken : ℕ → Rule → List Cycle → Bool

@@ -22,7 +22,7 @@ use Rattle.rulebook.specs.declared.Watch.{Watch}
 use Rattle.rulebook.specs.declared.Watch.the-variants.{Nothing, OnG2, OnG3}
 use Rattle.rulebook.specs.declared.Judge.{Judge}
 use Rattle.rulebook.specs.declared.Verdict.the-variants.{Taken, Refused}
-use Rattle.rulebook.specs.declared.Opening.{Opening}
+use Rattle.rulebook.specs.declared.Started.{Started}
 use Rattle.rulebook.specs.Columns.{someBelow}
 use Rattle.rulebook.specs.Rules.{limit, noInput}
 
@@ -48,7 +48,7 @@ startJudge n =
     }
 
 -- refusal 1, as reset answers; the judge beside it is then one of no masters
-unfoldable pub startOf : ℕ → Opening
+unfoldable pub startOf : ℕ → Started
 startOf n =
     cond (mastersOk n)
     (record { judge = startJudge n; verdict = Taken })

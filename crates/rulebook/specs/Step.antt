@@ -1,6 +1,7 @@
 -- One step of the judge, with its refusals, and a whole trace judged.
 --
 --   judgeOf j c        == the answer of a step: the refusals 10, 8, 4, 5, 6, 7, or the charges and the judge after the cycle
+--   refusedOf j r, takenOf j c == the answer of a step that refuses, and of one that takes the cycle
 --   numberOf v         == the number that a verdict answers: 0, or that of its refusal
 --   chargedRules a     == the rules that an answer charges, in the order of the report
 --   Judged n trace j   == the judge for n masters takes the whole trace, and is then j
@@ -27,7 +28,7 @@ use Rattle.rulebook.specs.declared.Verdict.the-variants.{Taken, Refused}
 use Rattle.rulebook.specs.declared.Judgement.{Judgement}
 use Rattle.rulebook.specs.Rules.{rules}
 use Rattle.rulebook.specs.State.{startOf, wellFormed}
-use Rattle.rulebook.specs.Charges.{judged, charges}
+use Rattle.rulebook.specs.Charges.{nextJudge, charges}
 
 abbrev pub numberOf : Verdict → ℕ
 numberOf Taken = 0
@@ -38,7 +39,7 @@ unfoldable pub refusedOf : Judge → Refusal → Judgement
 refusedOf j r = record { judge = j; verdict = Refused r; charged = map (λ (q : Rule). false) rules }
 
 unfoldable pub takenOf : Judge → Cycle → Judgement
-takenOf j c = record { judge = judged j c; verdict = Taken; charged = map (charges j c) rules }
+takenOf j c = record { judge = nextJudge j c; verdict = Taken; charged = map (charges j c) rules }
 
 abbrev pub checkedOf : Check → Judge → Cycle → Judgement
 checkedOf Good j c = takenOf j c

@@ -6,9 +6,10 @@
 --   atFirst f h        == f of t where t is cycle 0
 --   inARow f h         == how many of the newest cycles have f, in a row
 --   completes k r      == a row of length r has just reached k, or once more k: the run restarts at 0 with each charge
---   access h           == the cycles since the last handover: the access that runs
+--   access h           == the cycles of the access that runs, so far: those since the last handover
 --   Opened, opening a  == an access at its opening: the opening itself, and the cycles later than it
---   soFar trace t      == the history up to and with cycle t of a trace that is recorded oldest cycle first
+--   soFar trace t      == the history up to and with cycle t of a trace that is recorded oldest cycle first; none beyond its end
+--   newestFirst h l    == the history of the whole trace l that follows the history h
 use Prim.Native.Nat.{ℕ, zero, suc, _+_, _%_}
 use mathlib.Core.Bool.{Bool, true, false, _&&_, cond}
 use mathlib.Core.List.{List, [], _∷_}
@@ -39,12 +40,13 @@ inARow f (c ∷ h) = cond (f c) (1 + inARow f h) 0
 unfoldable pub completes : ℕ → ℕ → Bool
 completes k r = ltb 0 r && eqb (r % k) 0
 
--- "An access runs from the cycle after one handover (or from cycle 0) up to and including the next."
+-- "an access runs from the cycle after one handover (or from cycle 0) up to and including the next": a handover ends it, so after one
+-- nothing has come yet of the next; the cycles before a handover t are those of its access, and t is its last
 unfoldable pub access : List Cycle → List Cycle
 access [] = []
 access (c ∷ h) = cond (handover c) [] (c ∷ access h)
 
--- "The opening of an access is its first ready cycle with NONSEQ."
+-- "the opening of an access is its first ready cycle with NONSEQ."
 unfoldable pub opens : Cycle → Bool
 opens c = isReady c && isNonseq c
 
@@ -72,9 +74,13 @@ readies (c ∷ l) = cond (isReady c) 1 0 + readies l
 
 -- of the trace c ∷ l that follows the history h
 unfoldable pub soFarAfter : List Cycle → List Cycle → ℕ → List Cycle
-soFarAfter h [] t = h
+soFarAfter h [] t = []
 soFarAfter h (c ∷ l) zero = c ∷ h
 soFarAfter h (c ∷ l) (suc t) = soFarAfter (c ∷ h) l t
 
 abbrev pub soFar : List Cycle → ℕ → List Cycle
 soFar trace t = soFarAfter [] trace t
+
+unfoldable pub newestFirst : List Cycle → List Cycle → List Cycle
+newestFirst h [] = h
+newestFirst h (c ∷ l) = newestFirst (c ∷ h) l

@@ -53,7 +53,7 @@ pub enum Verdict {
 }
 
 // The answer of a start: the judge stands beside the verdict, since no enum holds an array.
-pub struct Opening {
+pub struct Started {
     pub judge: Judge,
     pub verdict: Verdict,
 }

@@ -10,3 +10,6 @@ pub mod Total
 pub mod Kept
 pub mod Shown
 pub mod Cases
+pub mod Cycles
+pub mod Refused
+pub mod Promises

@@ -1,6 +1,8 @@
 -- The cases P1 to P12 of document 01 as one table: `look` at each case of `cases` gives the row of `wanted` beside it.
 -- n = 3, HBUSREQ 0, ready, IDLE, SINGLE, locks low, Done, GRANTED low unless said. The count is k, which the page leaves open.
 --
+--   three ..   == a state of three masters: g, m, HMASTLOCK, GRANTED, the phase and the count
+--   lines ..   == inputs: HBUSREQ, HLOCK, HREADY, HTRANS, HBURST
 --   look c     == what is seen of a case: DECIDE and the state after a step, or the answer of a reset
 --   cases k    == the cases, those of a step at the count k
 --   wanted k   == what the page says of each
@@ -43,12 +45,12 @@ look (cycle s x) = lookAt (stepOf s x)
 look (reset n) = lookOn (resetOf n)
 
 -- a state of three masters: g, m, HMASTLOCK, GRANTED, the phase and the count
-abbrev three : ℕ → ℕ → Bool → Bool → Phase → ℕ → State
+abbrev pub three : ℕ → ℕ → Bool → Bool → Phase → ℕ → State
 three g m lock granted p k =
     record { n = 3; g = g; m = m; hmastlock = lock; granted = granted; phase = p; count = k }
 
 -- HBUSREQ, HLOCK, HREADY, HTRANS, HBURST
-abbrev lines : ℕ → ℕ → ℕ → ℕ → ℕ → Inputs
+abbrev pub lines : ℕ → ℕ → ℕ → ℕ → ℕ → Inputs
 lines hbusreq hlock hready htrans hburst =
     record { hbusreq = hbusreq; hlock = hlock; hready = hready; htrans = htrans; hburst = hburst }
 

@@ -5,7 +5,7 @@
 --   noCode b        == b is no code at all (refusal 4)
 --   notBuilt b      == b is a code that is not built (refusal 5)
 --   longestBurst    == the most beats that a fixed burst has
---   mostMasters, mostCycles == the limits of n and of the count
+--   fewestMasters, mostMasters, mostCycles == the limits of n and of the count
 use Prim.Native.Nat.{ℕ}
 use mathlib.Core.Bool.{Bool, true, false, cond}
 use lib.Dec.{eqb, leb}

@@ -2,11 +2,13 @@
 --
 --   seen s x            == what a cycle with inputs x shows of the owner of the bus
 --   handover s x        == GRANTED and HREADY are both high
---   protected b lock    == the burst b is of a protected kind
---   phaseOpened b lock  == the phase that the first beat of a burst opens
---   phaseLow p lock v   == the phase after a cycle with GRANTED low
---   phaseAfter s x      == the phase after a cycle
---   decides s x         == DECIDE is high
+--   protected b locked  == the burst b is of a protected kind, where locked says whether HMASTLOCK is high
+--   phaseOpened b locked == the phase that the first beat of a burst opens
+--   phaseLow p locked v == the phase after a cycle with GRANTED low
+--   phaseAfter s v      == the phase after a cycle
+--   settled p, isFresh p == the phase is neither Fixed nor Open; it is Fresh
+--   opensLater s v      == the first beat of a protected burst is not yet taken
+--   decides s v         == DECIDE is high
 use Prim.Native.Nat.{_-_}
 use mathlib.Core.Bool.{Bool, true, false, not, _&&_, cond}
 use lib.Dec.{leb}
@@ -31,33 +33,33 @@ seen s x =
       lock = high (x .hlock) (s .m);
     }
 
--- "A handover is a cycle with GRANTED and HREADY both high."
+-- "A handover is a cycle with GRANTED and HREADY both high"
 abbrev pub handover : State → Inputs → Bool
 handover s x = s .granted && ready x
 
 -- "Protected kind" means INCR4, or INCR while HMASTLOCK is high
 abbrev pub protected : Burst → Bool → Bool
-protected burst.Single lock = false
-protected burst.Unspecified lock = lock
-protected (burst.Fixed beats) lock = true
-protected burst.NotBuilt lock = false
-protected burst.NoCode lock = false
+protected burst.Single locked = false
+protected burst.Unspecified locked = locked
+protected (burst.Fixed beats) locked = true
+protected burst.NotBuilt locked = false
+protected burst.NoCode locked = false
 
 -- Fixed 3 for INCR4; Open for INCR with HMASTLOCK; else Done. Of a fixed burst one beat is taken and the others are to come.
 abbrev pub phaseOpened : Burst → Bool → Phase
-phaseOpened burst.Single lock = Done
-phaseOpened burst.Unspecified lock = cond lock Open Done
-phaseOpened (burst.Fixed beats) lock = Fixed (beats - 1)
-phaseOpened burst.NotBuilt lock = Done
-phaseOpened burst.NoCode lock = Done
+phaseOpened burst.Single locked = Done
+phaseOpened burst.Unspecified locked = cond locked Open Done
+phaseOpened (burst.Fixed beats) locked = Fixed (beats - 1)
+phaseOpened burst.NotBuilt locked = Done
+phaseOpened burst.NoCode locked = Done
 
 -- GRANTED low. Fresh, ready, NONSEQ: opened. Fixed k, ready: Fixed k-1, or Done when k is 1; not ready: unchanged.
 -- Open: Done if HBUSREQ of m is low, else Open. Anything else: unchanged.
 abbrev pub phaseLow : Phase → Bool → Seen → Phase
-phaseLow Fresh lock v = cond (v .ready && v .nonseq) (phaseOpened (v .burst) lock) Fresh
-phaseLow (Fixed k) lock v = cond (v .ready) (cond (leb k 1) Done (Fixed (k - 1))) (Fixed k)
-phaseLow Open lock v = cond (v .request) Open Done
-phaseLow Done lock v = Done
+phaseLow Fresh locked v = cond (v .ready && v .nonseq) (phaseOpened (v .burst) locked) Fresh
+phaseLow (Fixed k) locked v = cond (v .ready) (cond (leb k 1) Done (Fixed (k - 1))) (Fixed k)
+phaseLow Open locked v = cond (v .request) Open Done
+phaseLow Done locked v = Done
 
 -- GRANTED high, no handover: unchanged. Handover: Fresh. GRANTED low: as above.
 unfoldable pub phaseAfter : State → Seen → Phase

@@ -3,7 +3,8 @@
 --   numberOf r      == the number of the refusal r
 --   answerOf a      == the number that a step answers: 0, or that of its refusal
 --   stateOf a       == the state that a step hands back
---   startOf a       == the number that a reset answers: 0, or that of its refusal
+--   outputsOf a     == what a step that is taken shows; every column is 0 where it is refused
+--   resetAnswer a       == the number that a reset answers: 0, or that of its refusal
 --   firstOf v u a o == of the tests 4, 5, 6 and 7, in this order, the first that applies
 use Prim.Native.Nat.{ℕ}
 use mathlib.Core.Bool.{Bool, cond}
@@ -12,6 +13,7 @@ use Rattle.rules.specs.declared.Refusal.the-variants as refusal
 use Rattle.rules.specs.declared.Check.{Check}
 use Rattle.rules.specs.declared.Check.the-variants.{Good, Bad}
 use Rattle.rules.specs.declared.State.{State}
+use Rattle.rules.specs.declared.Outputs.{Outputs}
 use Rattle.rules.specs.declared.Start.{Start}
 use Rattle.rules.specs.declared.Start.the-variants.{Ready, Refused as Unready}
 use Rattle.rules.specs.declared.Answer.{Answer}
@@ -49,9 +51,14 @@ abbrev pub stateOf : Answer → State
 stateOf (Next s o) = s
 stateOf (Refused r s) = s
 
-abbrev pub startOf : Start → ℕ
-startOf (Ready s) = 0
-startOf (Unready r) = numberOf r
+abbrev pub outputsOf : Answer → Outputs
+outputsOf (Next s o) = o
+outputsOf (Refused r s) =
+    record { hgrant = 0; hmaster = 0; hmastlock = 0; decide = 0; granted = 0; busreq = 0 }
+
+abbrev pub resetAnswer : Start → ℕ
+resetAnswer (Ready s) = 0
+resetAnswer (Unready r) = numberOf r
 
 -- the flags say whether 4, 5, 6 and 7 apply
 abbrev pub firstOf : Bool → Bool → Bool → Bool → Check

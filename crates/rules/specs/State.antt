@@ -1,7 +1,8 @@
 -- The arbiter's state: what reset gives, and which states are well formed.
 --
---   resetOf n       == the answer of reset
---   phaseOk p granted lock == the phase fits GRANTED and HMASTLOCK
+--   mastersOk n     == n is a number of masters that is served
+--   resetState n, resetOf n == the state after a reset, and the answer of reset
+--   phaseOk p granted locked == the phase fits GRANTED and HMASTLOCK
 --   wellFormed s    == s is well formed
 --   WellFormed s    == the same, as facts
 use Prim.Native.Nat.{ℕ, _-_, _≤_, _<_}
@@ -30,10 +31,10 @@ resetOf n = cond (mastersOk n) (Ready (resetState n)) (Refused Masters)
 
 -- k from 1 to 3; Fresh or Done when GRANTED is high; HMASTLOCK high when Open
 unfoldable pub phaseOk : Phase → Bool → Bool → Bool
-phaseOk Fresh granted lock = true
-phaseOk (Fixed k) granted lock = leb 1 k && leb k (longestBurst - 1) && not granted
-phaseOk Open granted lock = not granted && lock
-phaseOk Done granted lock = true
+phaseOk Fresh granted locked = true
+phaseOk (Fixed k) granted locked = leb 1 k && leb k (longestBurst - 1) && not granted
+phaseOk Open granted locked = not granted && locked
+phaseOk Done granted locked = true
 
 -- n from 2 to 16; g and m below n; g = m when GRANTED is low; the phase as above; count at most 1,000,000. No other condition.
 unfoldable pub wellFormed : State → Bool

@@ -3,7 +3,11 @@
 --   chosen s x d       == the grant after a cycle in which DECIDE is d
 --   grantedAfter, ownerAfter, lockAfter == GRANTED, HMASTER and HMASTLOCK after a cycle
 --   moved s x d w      == the state after a cycle in which DECIDE is d and w is the grant that follows
+--   flagOf b           == a flag as its column has it
 --   shown s v d        == what the arbiter drives in a cycle in which DECIDE is d
+--   answered f d s x   == the answer where the choice found f: 11 where it found nobody
+--   accepted s x       == the answer to inputs that are valid
+--   checked k s x      == the answer by what the tests 4, 5 and 6 found
 --   stepOf s x         == the answer of a step
 use Prim.Native.Nat.{ℕ, _+_}
 use mathlib.Core.Bool.{Bool, true, false, not, _||_, cond}

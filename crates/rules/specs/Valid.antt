@@ -1,6 +1,10 @@
 -- What is valid for n: the tests 4, 5, 6 and 7 of document 01, shared by readers, writers, arbiter and judge.
 -- Each test is of the whole line: all of 4 comes before any of 5.
 --
+--   inputsTooLarge x, outputsTooLarge o == test 4: a value above its limit, or no code
+--   inputsNotBuilt x == test 5: a code that is not built
+--   inputsAbsent n x, outputsAbsent n o == test 6: a mask names an absent master
+--   ownerAbsent n o == test 7: HMASTER is absent
 --   inputsCheck n x == the first of 4, 5, 6 that applies to a stimulus
 --   cycleCheck n c  == the first of 4, 5, 6, 7 that applies to a recorded cycle
 use Prim.Native.Nat.{ℕ}

@@ -1,1 +1,3 @@
+pub mod Flags
+pub mod Codes
 pub mod Unique

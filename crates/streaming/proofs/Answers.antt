@@ -3,28 +3,26 @@
 --   short-room, enough-room == the test of the lent buffer, by the lines that it has room for
 --   arbiter-short, arbiter-unformed, arbiter-fit, arbiter-formed == the ends of the arbiter's call
 --   judge-short, judge-unformed, judge-fit, judge-formed == the ends of the judging program's
-use Prim.Native.Nat.{ℕ, _+_, _*_, _/_, _≤_, _<_}
+use Prim.Native.Nat.{ℕ, _+_, _/_, _≤_, _<_}
 use mathlib.Core.Path.{_≡_, sym, _∙_}
 use mathlib.Core.Bool.{Bool, true, false, not}
 use mathlib.Core.List.{List}
 use native.Mathlib.Omega.{arith}
 use native.Mathlib.Nat.{div-lt-iff-lt-mul, le-div-iff-mul-le}
-use borrow.Author.Tests.{leb-true, lt-ltb, le-ltb, not-true, not-false}
-use lib.Dec.{ltb, leb}
+use borrow.Author.Tests.{lt-ltb, le-ltb, not-true, not-false}
+use lib.Dec.{ltb}
 use lib.ListN.{length}
 use Rattle.rules.specs.declared.State.{State}
 use Rattle.rules.specs.State.{wellFormed, WellFormed}
-use Rattle.rules.proofs.Choice.{and-left, and-right}
 use Rattle.rules.proofs.WellFormed.{facts-of}
-use Rattle.rulebook.specs.State.{wellFormed as judgeFormed}
-use Rattle.rulebook.proofs.WellFormed.{facts-of as judge-facts}
 use Rattle.streams.specs.declared.ArbiterStretch.{ArbiterStretch}
-use Rattle.streams.specs.declared.Bench.{Bench}
+use Rattle.streams.specs.declared.Tally.{Tally}
 use Rattle.streams.specs.declared.JudgeStretch.{JudgeStretch}
 use Rattle.streams.specs.declared.Flow.the-variants.{Short, Unformed}
-use Rattle.streams.specs.Blocks.{roomFor, bytesOf, asArbiter, arbiterRoom, arbiterStretch, arbiterBlockOf, arbiterBlockLeft, benchFormed, asJudge, judgeRoom, judgeStretch, judgeBlockOf, judgeBlockLeft}
-use Rattle.streaming.specs.Turns.{over}
-use Rattle.streaming.specs.Breaches.{Formed}
+use Rattle.streams.specs.Blocks.{roomFor, bytesOf, asArbiter, arbiterRoom, arbiterStretch, arbiterBlockOf, arbiterBlockLeft, tallyFormed, asJudge, judgeRoom, judgeStretch, judgeBlockOf, judgeBlockLeft}
+use Rattle.streams.specs.Turns.{over}
+use Rattle.streams.specs.Breaches.{Formed}
+use Rattle.streams.proofs.Stays.{tally-facts}
 
 module _ (width most : ℕ) (some : 1 ≤ most) (block out : List ℕ) where
   pub short-room : length out / most < length block / width + 1 → ltb (length out) (roomFor width most block) ≡ true
@@ -65,32 +63,23 @@ module _ (s : State) (block out : List ℕ) where
         let f : wellFormed s ≡ true = sym e ∙ not-false formed n in
         (rw (t, f) (h .0), rw (t, f) (h .1))
 
--- what is kept passes its test exactly if it has the facts
-pub bench-facts : (b : Bench) → length (b .judge .lost) ≡ 16 → benchFormed b ≡ true → Formed b
-unfolding benchFormed
-bench-facts b size e =
-    record {
-      judge = judge-facts (b .judge) (and-left (judgeFormed (b .judge)) (leb (b .breaches) (21 * b .judge .count)) e) size;
-      few = leb-true _ _ (and-right (judgeFormed (b .judge)) (leb (b .breaches) (21 * b .judge .count)) e);
-    }
-
-module _ (b : Bench) (block out : List ℕ) where
+module _ (b : Tally) (block out : List ℕ) where
   pub judge-short : length out / 315 < length block / 31 + 1
-      → (record { written = 0; flow = Short; bench = b } ≡ judgeBlockOf b block (length out)) × (out ≡ judgeBlockLeft b block out)
+      → (record { written = 0; flow = Short; tally = b } ≡ judgeBlockOf b block (length out)) × (out ≡ judgeBlockLeft b block out)
   unfolding judgeBlockOf judgeBlockLeft
   judge-short h = let t = short-room 31 315 (omega arith) block out h in (rw t, rw t)
 
-  module _ (formed : Bool) (big : length block / 31 + 1 ≤ length out / 315) (e : formed ≡ benchFormed b) where
+  module _ (formed : Bool) (big : length block / 31 + 1 ≤ length out / 315) (e : formed ≡ tallyFormed b) where
     pub judge-unformed : not formed ≡ true
-        → (record { written = 0; flow = Unformed; bench = b } ≡ judgeBlockOf b block (length out)) × (out ≡ judgeBlockLeft b block out)
+        → (record { written = 0; flow = Unformed; tally = b } ≡ judgeBlockOf b block (length out)) × (out ≡ judgeBlockLeft b block out)
     unfolding judgeBlockOf judgeBlockLeft
     judge-unformed n =
         let t = roomy 31 315 (omega arith) block out big in
-        let f : benchFormed b ≡ false = sym e ∙ not-true formed n in
+        let f : tallyFormed b ≡ false = sym e ∙ not-true formed n in
         (rw (t, f), rw (t, f))
 
     pub judge-fit : not formed ≡ false → length (b .judge .lost) ≡ 16 → Formed b × (judgeRoom block ≤ length out)
-    judge-fit n size = (bench-facts b size (sym e ∙ not-false formed n), enough-room 31 315 (omega arith) block out big)
+    judge-fit n size = (tally-facts b size (sym e ∙ not-false formed n), enough-room 31 315 (omega arith) block out big)
 
     pub judge-formed : (r : JudgeStretch) (left : List ℕ) → not formed ≡ false
         → (r ≡ asJudge (judgeStretch b block)) × (left ≡ over (bytesOf (judgeStretch b block)) out)
@@ -98,5 +87,5 @@ module _ (b : Bench) (block out : List ℕ) where
     unfolding judgeBlockOf judgeBlockLeft
     judge-formed r left n h =
         let t = roomy 31 315 (omega arith) block out big in
-        let f : benchFormed b ≡ true = sym e ∙ not-false formed n in
+        let f : tallyFormed b ≡ true = sym e ∙ not-false formed n in
         (rw (t, f) (h .0), rw (t, f) (h .1))

@@ -31,14 +31,14 @@ use Rattle.formats.specs.Lines.{place, readTraceOf}
 use Rattle.formats.specs.Report.{endLine, refusedLine, writeOf, writtenOf}
 use Rattle.formats.proofs.Limits.{range-ok}
 use Rattle.formats.proofs.Headers.{header-writes}
-use Rattle.streams.specs.declared.Bench.{Bench}
+use Rattle.streams.specs.declared.Tally.{Tally}
 use Rattle.streams.specs.declared.Flow.the-variants as flow
 use Rattle.streams.specs.Streams.{written}
-use Rattle.streams.specs.Judging.{judgeTurn, startBench}
-use Rattle.streams.specs.Blocks.{benchFormed}
+use Rattle.streams.specs.Judging.{judgeTurn, startTally}
+use Rattle.streams.specs.Blocks.{tallyFormed}
 use Rattle.streaming.specs.declared.ArbiterHead.{ArbiterHead}
 use Rattle.streaming.specs.declared.ArbiterHead.the-variants.{Begun, Refused, Short}
-use Rattle.streaming.specs.Turns.{over, Put}
+use Rattle.streams.specs.Turns.{over, Put}
 use Rattle.streaming.specs.Heads.{headRoom, arbiterHeadOf, arbiterHeadLeft, judgeHeadOf, judgeHeadLeft, judgeEndOf, judgeEndLeft}
 
 module _ (n : ℕ) (good : mastersOk n ≡ true) (a : Start) (e : a ≡ resetOf n) where
@@ -83,23 +83,23 @@ module _ (s buffer : List ℕ) where
         (rw (t, q, p .size), rw (t, q) (p .puts))
 
 -- a start, for a good n and for none
-started : (n : ℕ) (b : Bench) → mastersOk n ≡ true → b ≡ record { judge = startOf n .judge; breaches = 0 } → b ≡ startBench n
+started : (n : ℕ) (b : Tally) → mastersOk n ≡ true → b ≡ record { judge = startOf n .judge; breaches = 0 } → b ≡ startTally n
 unfolding startOf
 started n b good e = e ∙ rw good
 
-not-started : (b : Bench) → b ≡ record { judge = startOf 0 .judge; breaches = 0 } → b ≡ startBench 0
+not-started : (b : Tally) → b ≡ record { judge = startOf 0 .judge; breaches = 0 } → b ≡ startTally 0
 unfolding startOf
 not-started b e = e
 
-module _ (s buffer : List ℕ) (b : Bench) where
+module _ (s buffer : List ℕ) (b : Tally) where
   pub judge-too-short : length buffer < headRoom → b ≡ record { judge = startOf 0 .judge; breaches = 0 }
-      → (record { written = 0; flow = flow.Short; bench = b } ≡ judgeHeadOf s (length buffer)) × (buffer ≡ judgeHeadLeft s buffer)
+      → (record { written = 0; flow = flow.Short; tally = b } ≡ judgeHeadOf s (length buffer)) × (buffer ≡ judgeHeadLeft s buffer)
   unfolding judgeHeadOf judgeHeadLeft
   judge-too-short h f = let t = lt-ltb (length buffer) 31 h in (rw (t, not-started b f), rw t)
 
   module _ (a : HeaderRead) (room : headRoom ≤ length buffer) (e : a ≡ readHeaderOf Trace s) where
     pub judge-begun : (n next : ℕ) → a ≡ head.Header n next → b ≡ record { judge = startOf n .judge; breaches = 0 }
-        → (record { written = 0; flow = flow.GoesOn; bench = b } ≡ judgeHeadOf s (length buffer)) × (buffer ≡ judgeHeadLeft s buffer)
+        → (record { written = 0; flow = flow.GoesOn; tally = b } ≡ judgeHeadOf s (length buffer)) × (buffer ≡ judgeHeadLeft s buffer)
     unfolding judgeHeadOf judgeHeadLeft
     judge-begun n next f g =
         let t = le-ltb (length buffer) 31 room in
@@ -108,7 +108,7 @@ module _ (s buffer : List ℕ) (b : Bench) where
 
     pub judge-refused : (r : Refusal) (k : ℕ) (out : List ℕ) → a ≡ head.Refused r → b ≡ record { judge = startOf 0 .judge; breaches = 0 }
         → Put (refusedLine 1 r) buffer k out
-        → (record { written = k; flow = flow.Stopped; bench = b } ≡ judgeHeadOf s (length buffer)) × (out ≡ judgeHeadLeft s buffer)
+        → (record { written = k; flow = flow.Stopped; tally = b } ≡ judgeHeadOf s (length buffer)) × (out ≡ judgeHeadLeft s buffer)
     unfolding judgeHeadOf judgeHeadLeft
     judge-refused r k out f g p =
         let t = le-ltb (length buffer) 31 room in
@@ -116,24 +116,24 @@ module _ (s buffer : List ℕ) (b : Bench) where
         (rw (t, q, not-started b g, p .size), rw (t, q) (p .puts))
 
 -- where nothing is left, a judge of a good n ends
-pub end-is : (b : Bench) → mastersOk (b .judge .n) ≡ true → written judgeTurn 1 b [] ≡ endLine (b .judge .count) (b .breaches)
+pub end-is : (b : Tally) → mastersOk (b .judge .n) ≡ true → written judgeTurn 1 b [] ≡ endLine (b .judge .count) (b .breaches)
 unfolding written judgeTurn readTraceOf place
 end-is b good = rw good
 
-pub formed-good : (b : Bench) → benchFormed b ≡ true → mastersOk (b .judge .n) ≡ true
-unfolding benchFormed judgeFormed
+pub formed-good : (b : Tally) → tallyFormed b ≡ true → mastersOk (b .judge .n) ≡ true
+unfolding tallyFormed judgeFormed
 formed-good b e = search (and-left, and-right) depth 12
 
-module _ (b : Bench) (formed : Bool) (e : formed ≡ benchFormed b) (buffer : List ℕ) where
+module _ (b : Tally) (formed : Bool) (e : formed ≡ tallyFormed b) (buffer : List ℕ) where
   pub end-unformed : not formed ≡ true → (wrote.Refused refusal.State ≡ judgeEndOf b (length buffer)) × (buffer ≡ judgeEndLeft b buffer)
   unfolding judgeEndOf judgeEndLeft
-  end-unformed n = let f : benchFormed b ≡ false = sym e ∙ not-true formed n in (rw f, rw f)
+  end-unformed n = let f : tallyFormed b ≡ false = sym e ∙ not-true formed n in (rw f, rw f)
 
   pub end-wrote : (w : Written) (out : List ℕ) → not formed ≡ false
       → (w ≡ writeOf (endLine (b .judge .count) (b .breaches)) (length buffer)) × (out ≡ writtenOf (endLine (b .judge .count) (b .breaches)) buffer)
       → (w ≡ judgeEndOf b (length buffer)) × (out ≡ judgeEndLeft b buffer)
   unfolding judgeEndOf judgeEndLeft
   end-wrote w out n h =
-      let f : benchFormed b ≡ true = sym e ∙ not-false formed n in
+      let f : tallyFormed b ≡ true = sym e ∙ not-false formed n in
       let q = end-is b (formed-good b f) in
       (rw (f, q) (h .0), rw (f, q) (h .1))

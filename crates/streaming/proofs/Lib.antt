@@ -1,14 +1,4 @@
-pub mod Fits
-pub mod Parts
-pub mod Stretches
-pub mod Ends
-pub mod Joined
-pub mod Arbitrated
-pub mod Gone
 pub mod Answers
-pub mod Reports
-pub mod Judged
-pub mod Passed
 pub mod Headed
 pub mod Near
 pub mod Promises

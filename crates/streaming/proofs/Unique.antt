@@ -8,7 +8,7 @@ use denote.Ref.{RefT, now}
 use Rattle.rules.specs.declared.State.{State}
 use Rattle.formats.specs.declared.Written.{Written}
 use Rattle.streams.specs.declared.ArbiterStretch.{ArbiterStretch}
-use Rattle.streams.specs.declared.Bench.{Bench}
+use Rattle.streams.specs.declared.Tally.{Tally}
 use Rattle.streams.specs.declared.JudgeStretch.{JudgeStretch}
 use Rattle.streaming.specs.declared.ArbiterHead.{ArbiterHead}
 use Rattle.streaming.proofs.arbiter_head.Reads as arbiterHead
@@ -40,13 +40,13 @@ module _ (buf out out' : Bytes) where
         → (r ≡ r') × (now out ≡ now out')
     judge-head-unique r r' p q = (p .0 ∙ sym (q .0), p .1 ∙ sym (q .1))
 
-    pub judge-block-unique : (b : Bench) (r r' : JudgeStretch)
+    pub judge-block-unique : (b : Tally) (r r' : JudgeStretch)
         → judgeBlock.Post κs (b, (input, (buf, tt))) r (b, (input, (out, tt)))
         → judgeBlock.Post κs (b, (input, (buf, tt))) r' (b, (input, (out', tt)))
         → (r ≡ r') × (now out ≡ now out')
     judge-block-unique b r r' p q = (p .0 ∙ sym (q .0), p .1 ∙ sym (q .1))
 
-  pub judge-end-unique : (κs : Lfts 1) (b : Bench) (r r' : Written)
+  pub judge-end-unique : (κs : Lfts 1) (b : Tally) (r r' : Written)
       → judgeEnd.Post κs (b, (buf, tt)) r (b, (out, tt))
       → judgeEnd.Post κs (b, (buf, tt)) r' (b, (out', tt))
       → (r ≡ r') × (now out ≡ now out')

@@ -3,6 +3,7 @@
 --   headRoom           == the room that a header and the line of its refusal need
 --   headSize w s       == the bytes that a program reads before it tells what header it has
 --   arbiterHeaded h    == what a stimulus header comes to: the trace header and the reset state, or the line of its refusal
+--   headAnswer h       == the number that the arbiter's call answers which takes a header: 0, or that of its refusal
 --   judgeHeaded h      == what a trace header comes to: the judge at its start, or the line of its refusal
 --   arbiterHeadOf, arbiterHeadLeft, judgeHeadOf, judgeHeadLeft == the answers of the calls that take a header, and the buffer afterwards
 --   judgeEndOf, judgeEndLeft == the answer of the call that writes the end line, and the buffer afterwards
@@ -11,7 +12,8 @@ use mathlib.Core.Bool.{true, cond}
 use mathlib.Core.List.{List, []}
 use lib.Dec.{eqb, ltb}
 use lib.ListN.{length, getD}
-use Rattle.rules.specs.declared.Refusal.the-variants.{State as StateRefusal}
+use Rattle.rules.specs.declared.Refusal.the-variants.{State as StateRefusal, Short as ShortRefusal}
+use Rattle.rules.specs.Refusals.{numberOf}
 use Rattle.rules.specs.State.{resetState}
 use Rattle.formats.specs.declared.Word.{Word}
 use Rattle.formats.specs.declared.Word.the-variants.{Stim, Trace}
@@ -23,15 +25,15 @@ use Rattle.formats.specs.Digits.{lf}
 use Rattle.formats.specs.Headers.{prefix, header, readHeaderOf}
 use Rattle.formats.specs.Lines.{left}
 use Rattle.formats.specs.Report.{refusedLine, writeOf}
-use Rattle.streams.specs.declared.Bench.{Bench}
+use Rattle.streams.specs.declared.Tally.{Tally}
 use Rattle.streams.specs.declared.Flow.the-variants as flow
 use Rattle.streams.specs.declared.JudgeStretch.{JudgeStretch}
 use Rattle.streams.specs.Streams.{written, Stretch, on, done}
-use Rattle.streams.specs.Judging.{judgeTurn, startBench}
-use Rattle.streams.specs.Blocks.{benchFormed, leftBy, asJudge}
+use Rattle.streams.specs.Judging.{judgeTurn, startTally}
+use Rattle.streams.specs.Blocks.{tallyFormed, leftBy, asJudge}
 use Rattle.streaming.specs.declared.ArbiterHead.{ArbiterHead}
 use Rattle.streaming.specs.declared.ArbiterHead.the-variants.{Begun, Refused, Short}
-use Rattle.streaming.specs.Turns.{over}
+use Rattle.streams.specs.Turns.{over}
 
 abbrev pub headRoom : ℕ
 headRoom = 31
@@ -50,6 +52,12 @@ abbrev pub arbiterHeadBytes : HeaderRead → List ℕ
 arbiterHeadBytes (head.Header n next) = header Trace n
 arbiterHeadBytes (head.Refused r) = refusedLine 1 r
 
+-- a header that is refused has its line among the bytes that are written; it is no refusal of the call
+abbrev pub headAnswer : ArbiterHead → ℕ
+headAnswer (Begun written s) = 0
+headAnswer (Refused written) = 0
+headAnswer Short = numberOf ShortRefusal
+
 unfoldable pub arbiterHeadOf : List ℕ → ℕ → ArbiterHead
 arbiterHeadOf s room = cond (ltb room headRoom) Short (arbiterHeaded (readHeaderOf Stim s))
 
@@ -58,20 +66,20 @@ arbiterHeadLeft s buffer =
     cond (ltb (length buffer) headRoom) buffer (over (arbiterHeadBytes (readHeaderOf Stim s)) buffer)
 
 -- a refusal stands beside a judge of no masters, as in the judge's own start
-abbrev pub judgeHeaded : HeaderRead → Stretch Bench
-judgeHeaded (head.Header n next) = on [] (startBench n)
-judgeHeaded (head.Refused r) = done (refusedLine 1 r) (startBench 0)
+abbrev pub judgeHeaded : HeaderRead → Stretch Tally
+judgeHeaded (head.Header n next) = on [] (startTally n)
+judgeHeaded (head.Refused r) = done (refusedLine 1 r) (startTally 0)
 
 unfoldable pub judgeHeadOf : List ℕ → ℕ → JudgeStretch
 judgeHeadOf s room =
-    cond (ltb room headRoom) (record { written = 0; flow = flow.Short; bench = startBench 0 }) (asJudge (judgeHeaded (readHeaderOf Trace s)))
+    cond (ltb room headRoom) (record { written = 0; flow = flow.Short; tally = startTally 0 }) (asJudge (judgeHeaded (readHeaderOf Trace s)))
 
 unfoldable pub judgeHeadLeft : List ℕ → List ℕ → List ℕ
 judgeHeadLeft s buffer = leftBy headRoom true (judgeHeaded (readHeaderOf Trace s)) buffer
 
 -- what is written where nothing is left: 10, 9
-unfoldable pub judgeEndOf : Bench → ℕ → Written
-judgeEndOf b room = cond (benchFormed b) (writeOf (written judgeTurn 1 b []) room) (wrote.Refused StateRefusal)
+unfoldable pub judgeEndOf : Tally → ℕ → Written
+judgeEndOf b room = cond (tallyFormed b) (writeOf (written judgeTurn 1 b []) room) (wrote.Refused StateRefusal)
 
-unfoldable pub judgeEndLeft : Bench → List ℕ → List ℕ
+unfoldable pub judgeEndLeft : Tally → List ℕ → List ℕ
 judgeEndLeft b buffer = left (judgeEndOf b (length buffer)) (written judgeTurn 1 b []) buffer

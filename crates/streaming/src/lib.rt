@@ -1,9 +1,4 @@
 // The two programs, block by block: what they keep goes in by value and comes back, and what they write goes into a lent buffer.
-mod arbiter;
-mod judge;
-mod puts;
-mod report;
-
 use formats::HeaderRead;
 use formats::Word;
 use formats::Written;
@@ -11,9 +6,9 @@ use rules::Refusal;
 use rules::Start;
 use rules::State;
 use streams::ArbiterStretch;
-use streams::Bench;
 use streams::Flow;
 use streams::JudgeStretch;
+use streams::Tally;
 ghost use mathlib.Core.Path.{_≡_};
 ghost use mathlib.Core.Bool.{true};
 ghost use Prim.Native.Nat.{_≤_};
@@ -23,25 +18,10 @@ ghost use Rattle.rules.specs.State.{mastersOk, resetState};
 ghost use Rattle.rulebook.specs.State.{startOf};
 ghost use Rattle.formats.specs.declared.Word.the-variants.{Trace};
 ghost use Rattle.formats.specs.Headers.{header};
-ghost use Rattle.streams.specs.Blocks.{arbiterBlockOf, arbiterBlockLeft, benchFormed, judgeBlockOf, judgeBlockLeft};
+ghost use Rattle.streams.specs.Blocks.{arbiterBlockOf, arbiterBlockLeft, tallyFormed, judgeBlockOf, judgeBlockLeft};
 ghost use Rattle.streaming.specs.declared.ArbiterHead.the-variants.{Begun};
-ghost use Rattle.streaming.specs.Turns.{over};
-ghost use Rattle.streaming.specs.Going.{Within};
+ghost use Rattle.streams.specs.Turns.{over};
 ghost use Rattle.streaming.specs.Heads.{arbiterHeadOf, arbiterHeadLeft, judgeHeadOf, judgeHeadLeft, judgeEndOf, judgeEndLeft};
-
-// Where a glide must end in a block of so many bytes: after the last whole line of its width, and after the last cycle of a run.
-fn end_within(width: usize, size: usize, count: u32) -> usize
-    requires { ⌜ (1 ≤ width) × (count ≤ mostCycles) ⌝ }
-    ensures { λ r. ⌜ Within width size count r ⌝ }
-{
-    let lines = size / width;
-    let left = (1000000 - count) as usize;
-    if lines < left {
-        lines * width
-    } else {
-        left * width
-    }
-}
 
 // What a stimulus header comes to: the bytes of the trace's header and the state to go on from, those of a refusal line, or 9.
 pub enum ArbiterHead {
@@ -56,8 +36,8 @@ fn begin(n: u32, out: &mut [u8]) -> ArbiterHead
     ensures { λ r. ⌜ (r ≡ Begun (length (header Trace n)) (resetState n)) × (now (out .exit) ≡ over (header Trace n) (now (out .entry))) ⌝ }
 {
     match arbitration::reset(n) {
-        Start::Ready(s) => ArbiterHead::Begun(puts::put_header(n, out), s),
-        Start::Refused(r) => ArbiterHead::Refused(puts::put_refused(1, r, out)),
+        Start::Ready(s) => ArbiterHead::Begun(reports::put_header(n, out), s),
+        Start::Refused(r) => ArbiterHead::Refused(reports::put_refused(1, r, out)),
     }
 }
 
@@ -70,7 +50,7 @@ pub fn arbiter_head(head: &[u8], out: &mut [u8]) -> ArbiterHead
     }
     match headers::read_header(Word::Stim, head) {
         HeaderRead::Header(n, _) => begin(n, out),
-        HeaderRead::Refused(r) => ArbiterHead::Refused(puts::put_refused(1, r, out)),
+        HeaderRead::Refused(r) => ArbiterHead::Refused(reports::put_refused(1, r, out)),
     }
 }
 
@@ -92,16 +72,16 @@ pub fn arbiter_block(s: State, block: &[u8], out: &mut [u8]) -> ArbiterStretch
             state: s,
         };
     }
-    arbiter::run(s, block, out)
+    stimuli::run(s, block, out)
 }
 
 // What the judging program keeps at the start; for no good n it is a judge of no masters.
-fn bench(n: u32) -> Bench
+fn tally(n: u32) -> Tally
     ensures { λ r. ⌜ r ≡ record { judge = startOf n .judge; breaches = 0 } ⌝ }
 {
     let opening = judging::start(n);
     let judge = opening.judge;
-    Bench { judge, breaches: 0 }
+    Tally { judge, breaches: 0 }
 }
 
 // The header of a trace: 9, or the judge at its start, or the line of a refusal.
@@ -112,26 +92,26 @@ pub fn judge_head(head: &[u8], out: &mut [u8]) -> JudgeStretch
         return JudgeStretch {
             written: 0,
             flow: Flow::Short,
-            bench: bench(0),
+            tally: tally(0),
         };
     }
     match headers::read_header(Word::Trace, head) {
         HeaderRead::Header(n, _) => JudgeStretch {
             written: 0,
             flow: Flow::GoesOn,
-            bench: bench(n),
+            tally: tally(n),
         },
         HeaderRead::Refused(r) => JudgeStretch {
-            written: puts::put_refused(1, r, out),
+            written: reports::put_refused(1, r, out),
             flow: Flow::Stopped,
-            bench: bench(0),
+            tally: tally(0),
         },
     }
 }
 
 // Whether what the judging program keeps is well formed.
-fn bench_formed(b: Bench) -> bool
-    ensures { λ r. ⌜ r ≡ benchFormed b ⌝ }
+fn tally_formed(b: Tally) -> bool
+    ensures { λ r. ⌜ r ≡ tallyFormed b ⌝ }
 {
     let j = b.judge;
     let formed = judging::well_formed(j);
@@ -139,31 +119,31 @@ fn bench_formed(b: Bench) -> bool
 }
 
 // One block of a trace: 9, 10, or its breach lines as far as the judge goes.
-pub fn judge_block(b: Bench, block: &[u8], out: &mut [u8]) -> JudgeStretch
+pub fn judge_block(b: Tally, block: &[u8], out: &mut [u8]) -> JudgeStretch
     ensures { λ r. ⌜ (r ≡ judgeBlockOf b (now (block .entry)) (length (now (out .entry)))) × (now (out .exit) ≡ judgeBlockLeft b (now (block .entry)) (now (out .entry))) ⌝ }
 {
     if out.len() / 315 < block.len() / 31 + 1 {
         return JudgeStretch {
             written: 0,
             flow: Flow::Short,
-            bench: b,
+            tally: b,
         };
     }
-    if !bench_formed(b) {
+    if !tally_formed(b) {
         return JudgeStretch {
             written: 0,
             flow: Flow::Unformed,
-            bench: b,
+            tally: b,
         };
     }
-    judge::run(b, block, out)
+    traces::run(b, block, out)
 }
 
 // The end of the trace: 10, 9, or the last line of the report.
-pub fn judge_end(b: Bench, out: &mut [u8]) -> Written
+pub fn judge_end(b: Tally, out: &mut [u8]) -> Written
     ensures { λ r. ⌜ (r ≡ judgeEndOf b (length (now (out .entry)))) × (now (out .exit) ≡ judgeEndLeft b (now (out .entry))) ⌝ }
 {
-    if !bench_formed(b) {
+    if !tally_formed(b) {
         return Written::Refused(Refusal::State);
     }
     let j = b.judge;

@@ -1,4 +1,12 @@
 pub mod Cut
 pub mod Near
+pub mod Parts
+pub mod Stretches
+pub mod Sizes
+pub mod Arbitrated
+pub mod Judged
+pub mod Stays
 pub mod Promises
+pub mod Counted
+pub mod Enough
 pub mod Examples

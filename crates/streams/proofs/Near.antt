@@ -32,7 +32,7 @@ use Rattle.rulebook.specs.declared.Verdict.{Verdict}
 use Rattle.rulebook.specs.declared.Verdict.the-variants.{Taken, Refused as Unjudged}
 use Rattle.rulebook.specs.declared.Judgement.{Judgement}
 use Rattle.rulebook.specs.Step.{judgeOf}
-use Rattle.streams.specs.declared.Bench.{Bench}
+use Rattle.streams.specs.declared.Tally.{Tally}
 use Rattle.streams.specs.Streams.{goes, stops}
 use Rattle.streams.specs.Arbiter.{stepped, stimulated, arbiterTurn}
 use Rattle.streams.specs.Judging.{judgedTo, traced, judgeTurn}
@@ -165,7 +165,7 @@ stimulus-none n s = go (mastersOk n)
     go true = (_, refl)
     go false = (_, refl)
 
-trace-none : (n : ℕ) (b : Bench) → (bytes : List ℕ) × (traced (readTraceOf n [] 0) b ≡ stops bytes)
+trace-none : (n : ℕ) (b : Tally) → (bytes : List ℕ) × (traced (readTraceOf n [] 0) b ≡ stops bytes)
 unfolding readTraceOf place
 trace-none n b = go (mastersOk n)
   where
@@ -208,7 +208,7 @@ judge-by-lines =
       near = λ b x y h. ap (λ (r : TraceRead). traced r b) (trace-near x y (b .judge .n) h);
     }
   where
-    found : (b : Bench) (rest bytes : List ℕ) (t : Bench) (k : ℕ) → traced (readTraceOf (b .judge .n) rest 0) b ≡ goes bytes t k → (k ≡ 31) × (31 ≤ length rest)
+    found : (b : Tally) (rest bytes : List ℕ) (t : Tally) (k : ℕ) → traced (readTraceOf (b .judge .n) rest 0) b ≡ goes bytes t k → (k ≡ 31) × (31 ≤ length rest)
     found b rest bytes t k e = go (readTraceOf (b .judge .n) rest 0) refl
       where
         taken : (next : ℕ) (a : Judgement) (v : Verdict) → judgedTo v a b next ≡ goes bytes t k → next ≡ k

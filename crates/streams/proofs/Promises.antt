@@ -12,12 +12,12 @@ use Rattle.formats.specs.declared.Word.the-variants.{Trace}
 use Rattle.formats.specs.Headers.{header}
 use Rattle.streams.specs.declared.Flow.{Flow}
 use Rattle.streams.specs.declared.ArbiterStretch.{ArbiterStretch}
-use Rattle.streams.specs.declared.Bench.{Bench}
+use Rattle.streams.specs.declared.Tally.{Tally}
 use Rattle.streams.specs.declared.JudgeStretch.{JudgeStretch}
 use Rattle.streams.specs.Arbiter.{arbiterTurn, arbiterProgram}
-use Rattle.streams.specs.Judging.{judgeTurn, startBench, judgeProgram}
+use Rattle.streams.specs.Judging.{judgeTurn, startTally, judgeProgram}
 use Rattle.streams.specs.Streams.{Stretch, on, done}
-use Rattle.streams.specs.Blocks.{joined, flowAnswer, arbiterRoom, asArbiter, arbiterStretch, arbiterBlockOf, arbiterBlockLeft, benchFormed, judgeRoom, asJudge, judgeStretch, judgeBlockOf, judgeBlockLeft}
+use Rattle.streams.specs.Blocks.{joined, flowAnswer, arbiterRoom, asArbiter, arbiterStretch, arbiterBlockOf, arbiterBlockLeft, tallyFormed, judgeRoom, asJudge, judgeStretch, judgeBlockOf, judgeBlockLeft}
 use Rattle.streams.specs.Promises.{ArbiterInBlocks, JudgeInBlocks, RefusedBlocksKept}
 use Rattle.streams.proofs.Cut.{in-blocks}
 use Rattle.streams.proofs.Near.{arbiter-by-lines, judge-by-lines}
@@ -35,7 +35,7 @@ arbiter-in-blocks s n next blocks last e f h =
 pub judge-in-blocks : JudgeInBlocks
 unfolding judgeProgram
 judge-in-blocks s n next blocks last e f h =
-    rw (e, f) (in-blocks judgeTurn 31 judge-by-lines blocks last h (suc (length s)) (startBench n) (shorter s (joined blocks last) next f))
+    rw (e, f) (in-blocks judgeTurn 31 judge-by-lines blocks last h (suc (length s)) (startTally n) (shorter s (joined blocks last) next f))
 
 -- A call that answers `few` where the buffer is too short, `taken` where what was kept is well formed, and else `ill`; `after` is the
 -- buffer that the block leaves.
@@ -51,7 +51,7 @@ arbiter-taken : (t : Stretch State) → flowAnswer (asArbiter t .flow) ≡ 0
 arbiter-taken (on bytes s) = refl
 arbiter-taken (done bytes s) = refl
 
-judge-taken : (t : Stretch Bench) → flowAnswer (asJudge t .flow) ≡ 0
+judge-taken : (t : Stretch Tally) → flowAnswer (asJudge t .flow) ≡ 0
 judge-taken (on bytes b) = refl
 judge-taken (done bytes b) = refl
 
@@ -64,7 +64,7 @@ refused-blocks-kept =
           (ltb (length buffer) (arbiterRoom block)) (wellFormed s)
           refl (arbiter-taken (arbiterStretch s block)) refl h;
       judge-block = λ b block buffer h.
-          kept (λ (a : JudgeStretch). a .flow) (λ a. a .bench) _ (asJudge (judgeStretch b block)) _ b _ buffer
-          (ltb (length buffer) (judgeRoom block)) (benchFormed b)
+          kept (λ (a : JudgeStretch). a .flow) (λ a. a .tally) _ (asJudge (judgeStretch b block)) _ b _ buffer
+          (ltb (length buffer) (judgeRoom block)) (tallyFormed b)
           refl (judge-taken (judgeStretch b block)) refl h;
     }

@@ -3,7 +3,7 @@
 --   Whole w a          == the block a is a whole number of lines of w bytes
 --   ByLines w turn     == a turn looks at no more than the first w bytes of its input, goes on only after them, and stops where nothing is left
 --   inBlocks turn s blocks last == what is written block by block; the last one ends the input, and may be cut
---   benchFormed b      == what the judging program keeps is well formed
+--   tallyFormed b      == what the judging program keeps is well formed
 --   flowAnswer f       == the number that a call answers which takes one block: 0, or that of its refusal
 --   arbiterBlockOf, arbiterBlockLeft, judgeBlockOf, judgeBlockLeft == the answers of the calls that take one block, and the buffer afterwards
 use Prim.Native.Nat.{ℕ, _+_, _*_, _/_, _≤_}
@@ -21,7 +21,7 @@ use Rattle.rulebook.specs.State.{wellFormed as judgeFormed}
 use Rattle.streams.specs.declared.Flow.{Flow}
 use Rattle.streams.specs.declared.Flow.the-variants.{GoesOn, Stopped, Short, Unformed}
 use Rattle.streams.specs.declared.ArbiterStretch.{ArbiterStretch}
-use Rattle.streams.specs.declared.Bench.{Bench}
+use Rattle.streams.specs.declared.Tally.{Tally}
 use Rattle.streams.specs.declared.JudgeStretch.{JudgeStretch}
 use Rattle.streams.specs.Streams.{Turn, goes, stops, written, Stretch, on, done, stretch, then}
 use Rattle.streams.specs.Arbiter.{arbiterTurn}
@@ -59,8 +59,8 @@ unfoldable pub roomFor : ℕ → ℕ → List ℕ → ℕ
 roomFor w most block = (length block / w + 1) * most
 
 -- "State records added later get such a condition": each rule is charged at most once a cycle
-unfoldable pub benchFormed : Bench → Bool
-benchFormed b = judgeFormed (b .judge) && leb (b .breaches) (length rules * b .judge .count)
+unfoldable pub tallyFormed : Tally → Bool
+tallyFormed b = judgeFormed (b .judge) && leb (b .breaches) (length rules * b .judge .count)
 
 abbrev pub bytesOf : {S : Type 0} → Stretch S → List ℕ
 bytesOf (on bytes s) = bytes
@@ -105,17 +105,17 @@ arbiterBlockLeft s block buffer = leftBy (arbiterRoom block) (wellFormed s) (arb
 abbrev pub judgeRoom : List ℕ → ℕ
 judgeRoom block = roomFor 31 315 block
 
-abbrev pub asJudge : Stretch Bench → JudgeStretch
-asJudge (on bytes b) = record { written = length bytes; flow = GoesOn; bench = b }
-asJudge (done bytes b) = record { written = length bytes; flow = Stopped; bench = b }
+abbrev pub asJudge : Stretch Tally → JudgeStretch
+asJudge (on bytes b) = record { written = length bytes; flow = GoesOn; tally = b }
+asJudge (done bytes b) = record { written = length bytes; flow = Stopped; tally = b }
 
-abbrev pub judgeStretch : Bench → List ℕ → Stretch Bench
+abbrev pub judgeStretch : Tally → List ℕ → Stretch Tally
 judgeStretch b block = stretch judgeTurn (length block) b block
 
-unfoldable pub judgeBlockOf : Bench → List ℕ → ℕ → JudgeStretch
+unfoldable pub judgeBlockOf : Tally → List ℕ → ℕ → JudgeStretch
 judgeBlockOf b block room =
-    cond (ltb room (judgeRoom block)) (record { written = 0; flow = Short; bench = b })
-    (cond (benchFormed b) (asJudge (judgeStretch b block)) (record { written = 0; flow = Unformed; bench = b }))
+    cond (ltb room (judgeRoom block)) (record { written = 0; flow = Short; tally = b })
+    (cond (tallyFormed b) (asJudge (judgeStretch b block)) (record { written = 0; flow = Unformed; tally = b }))
 
-unfoldable pub judgeBlockLeft : Bench → List ℕ → List ℕ → List ℕ
-judgeBlockLeft b block buffer = leftBy (judgeRoom block) (benchFormed b) (judgeStretch b block) buffer
+unfoldable pub judgeBlockLeft : Tally → List ℕ → List ℕ → List ℕ
+judgeBlockLeft b block buffer = leftBy (judgeRoom block) (tallyFormed b) (judgeStretch b block) buffer

@@ -1,6 +1,7 @@
 -- The page's whole run through the two programs, as texts: what is read, and what is written.
 --
---   Job                == which program, what it reads, and what the page says that it writes
+--   Job                == which program, and what it reads
+--   writes j           == what it writes by the definitions
 --   jobs               == the run, its HGRANT 0002 variant, a header alone, and refusals at their lines
 use Prim.Native.Nat.{ℕ}
 use Prim.Native.String.{String}

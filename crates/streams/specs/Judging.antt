@@ -20,7 +20,7 @@ use Rattle.formats.specs.declared.TraceRead.the-variants as trace
 use Rattle.formats.specs.Lines.{readTraceOf}
 use Rattle.formats.specs.Headers.{readHeaderOf}
 use Rattle.formats.specs.Report.{breachLine, endLine, refusedLine}
-use Rattle.streams.specs.declared.Bench.{Bench}
+use Rattle.streams.specs.declared.Tally.{Tally}
 use Rattle.streams.specs.Streams.{Turn, goes, stops, written}
 
 -- "one line a breach, .. by cycle and then in the order above"
@@ -28,7 +28,7 @@ unfoldable pub breachLines : ℕ → List Rule → List ℕ
 breachLines t [] = []
 breachLines t (r ∷ l) = breachLine t r ++ breachLines t l
 
-abbrev pub judgedTo : Verdict → Judgement → Bench → ℕ → Turn Bench
+abbrev pub judgedTo : Verdict → Judgement → Tally → ℕ → Turn Tally
 judgedTo Taken a b next =
     goes (breachLines (b .judge .count) (chargedRules a))
     (record { judge = a .judge; breaches = b .breaches + length (chargedRules a) })
@@ -36,19 +36,19 @@ judgedTo Taken a b next =
 judgedTo (Refused r) a b next = stops (refusedLine (b .judge .count + 2) r)
 
 -- "then `end`, tab, cycles, tab, breaches"; a refusal stands in its place
-abbrev pub traced : TraceRead → Bench → Turn Bench
+abbrev pub traced : TraceRead → Tally → Turn Tally
 traced (trace.Line c next) b = judgedTo (judgeOf (b .judge) c .verdict) (judgeOf (b .judge) c) b next
 traced trace.NoMore b = stops (endLine (b .judge .count) (b .breaches))
 traced (trace.Refused r) b = stops (refusedLine (b .judge .count + 2) r)
 
-unfoldable pub judgeTurn : Bench → List ℕ → Turn Bench
+unfoldable pub judgeTurn : Tally → List ℕ → Turn Tally
 judgeTurn b rest = traced (readTraceOf (b .judge .n) rest 0) b
 
-abbrev pub startBench : ℕ → Bench
-startBench n = record { judge = startJudge n; breaches = 0 }
+abbrev pub startTally : ℕ → Tally
+startTally n = record { judge = startJudge n; breaches = 0 }
 
 abbrev pub judgeAfter : HeaderRead → List ℕ → List ℕ
-judgeAfter (head.Header n next) s = written judgeTurn (suc (length s)) (startBench n) (drop next s)
+judgeAfter (head.Header n next) s = written judgeTurn (suc (length s)) (startTally n) (drop next s)
 judgeAfter (head.Refused r) s = refusedLine 1 r
 
 unfoldable pub judgeProgram : List ℕ → List ℕ

@@ -3,5 +3,10 @@ pub mod Streams
 pub mod Arbiter
 pub mod Judging
 pub mod Blocks
+pub mod Turns
+pub mod Going
+pub mod Breaches
+pub mod Stays
 pub mod Promises
+pub mod Enough
 pub mod Examples

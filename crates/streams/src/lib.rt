@@ -19,7 +19,7 @@ pub struct ArbiterStretch {
 }
 
 // What the judging program keeps: the judge, and the breaches so far.
-pub struct Bench {
+pub struct Tally {
     pub judge: Judge,
     pub breaches: u32,
 }
@@ -28,5 +28,5 @@ pub struct Bench {
 pub struct JudgeStretch {
     pub written: usize,
     pub flow: Flow,
-    pub bench: Bench,
+    pub tally: Tally,
 }

@@ -1,46 +1,23 @@
--- `accept` meets its contract: both ends of the choice.
-use Rattle.arbitration.proofs.Close.{nobody, somebody}
+-- `accept` meets its contract: the numbers stand for the state, before the cycle and after it.
+use Rattle.arbitration.proofs.Close.{numbered, counted, went-on}
 use borrow.Author.Needs.{needs}
 use Rattle.arbitration.proofs.accept.Statement.{statement}
 use Rattle.arbitration.proofs.accept.Tie as tie
 
-look-requires : tie.Need-look-requires
-look-requires c κs = search needs
+bus-of-requires : tie.Need-bus-of-requires
+bus-of-requires c κs = search needs
 
-decide-requires : tie.Need-decide-requires
-decide-requires c κs = search needs
+advance-requires : tie.Need-advance-requires
+advance-requires c κs =
+    let same = c .bus-of .ensures in
+    let a = c .before .pre in
+    (numbered (same .0) (a .0), same .1, counted (same .0) (a .1), a .2)
 
-choose-requires : tie.Need-choose-requires
-choose-requires c κs = search needs
-
-enum-told : tie.Need-enum-told
-enum-told c = search needs
-
-enum-known-w : tie.Need-enum-known-w
-enum-known-w c = search needs
-
-move-on-requires : tie.Need-move-on-requires
-move-on-requires c κs = search needs
-
-show-requires : tie.Need-show-requires
-show-requires c κs = search needs
+state-requires : tie.Need-state-requires
+state-requires c κs = search needs
 
 returns : tie.Need-returns
-returns c = search nobody
-
-returns-2 : tie.Need-returns-2
-returns-2 c = search somebody
+returns c = search went-on
 
 pub accept-spec : {M : Type 1} → statement M
-accept-spec =
-    tie.close
-    (tie.spec
-    look-requires
-    decide-requires
-    choose-requires
-    enum-told
-    enum-known-w
-    move-on-requires
-    show-requires
-    returns
-    returns-2)
+accept-spec = tie.close (tie.spec bus-of-requires advance-requires state-requires returns)

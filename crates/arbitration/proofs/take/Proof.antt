@@ -1,5 +1,5 @@
 -- `take` meets its contract: both ends of the tests.
-use Rattle.arbitration.proofs.Close.{good, bad}
+use Rattle.arbitration.proofs.Close.{bad}
 use borrow.Author.Needs.{needs}
 use Rattle.arbitration.proofs.take.Statement.{statement}
 use Rattle.arbitration.proofs.take.Tie as tie
@@ -17,7 +17,7 @@ enum-known-r : tie.Need-enum-known-r
 enum-known-r c = search needs
 
 returns : tie.Need-returns
-returns c = search good
+returns c = search needs
 
 returns-2 : tie.Need-returns-2
 returns-2 c = search bad

@@ -1,6 +1,6 @@
--- `bit` meets its contract.
-use mathlib.Core.Path.{refl}
+-- `bit` meets its contract: a binary digit is a flag.
 use Rattle.rules.specs.Masks.{high}
+use Rattle.signals.proofs.Flags.{digit}
 use borrow.Author.Needs.{needs}
 use Rattle.buses.proofs.bit.Statement.{statement}
 use Rattle.buses.proofs.bit.Tie as tie
@@ -10,7 +10,7 @@ shr-result c = search needs
 
 returns : tie.Need-returns
 unfolding high
-returns c = refl
+returns c = digit _
 
 pub bit-spec : {M : Type 1} → statement M
 bit-spec = tie.close (tie.spec shr-result returns)

@@ -1,5 +1,5 @@
 -- `winner` meets its contract: where some bit is high, the walk ends at a master.
-use Rattle.buses.proofs.Step.{some-winner}
+use Rattle.buses.proofs.Decision.{some-winner}
 use borrow.Author.Needs.{needs}
 use Rattle.buses.proofs.winner.Statement.{statement}
 use Rattle.buses.proofs.winner.Tie as tie

@@ -1,5 +1,6 @@
 -- `charge_alone` meets its contract.
-use Rattle.charging.proofs.Order.{alone-of}
+use native.Mathlib.Omega.{arith}
+use Rattle.charging.proofs.Order.{alone-is}
 use borrow.Author.Needs.{needs}
 use Rattle.charging.proofs.charge_alone.Statement.{statement}
 use Rattle.charging.proofs.charge_alone.Tie as tie
@@ -19,17 +20,11 @@ handover-requires c κs = search needs
 owners-request-requires : tie.Need-owners-request-requires
 owners-request-requires c κs = search needs
 
-a9-requires : tie.Need-a9-requires
-a9-requires c κs = search needs
-
 on-g2-requires : tie.Need-on-g2-requires
 on-g2-requires c κs = search needs
 
 on-g3-requires : tie.Need-on-g3-requires
 on-g3-requires c κs = search needs
-
-g12-requires : tie.Need-g12-requires
-g12-requires c κs = search needs
 
 a8-requires : tie.Need-a8-requires
 a8-requires c κs = search needs
@@ -37,8 +32,20 @@ a8-requires c κs = search needs
 g1-requires : tie.Need-g1-requires
 g1-requires c κs = search needs
 
+five-requires : tie.Need-five-requires
+five-requires c κs = search needs
+
+five-requires-2 : tie.Need-five-requires-2
+five-requires-2 c κs = search needs
+
+mul-result : tie.Need-mul-result
+mul-result c = search needs
+
+add-result : tie.Need-add-result
+add-result c = search needs
+
 returns : tie.Need-returns
-returns c = search alone-of
+returns c = (search alone-is, omega arith)
 
 pub charge-alone-spec : {M : Type 1} → statement M
 charge-alone-spec =
@@ -49,10 +56,12 @@ charge-alone-spec =
     locked-incr-requires
     handover-requires
     owners-request-requires
-    a9-requires
     on-g2-requires
     on-g3-requires
-    g12-requires
     a8-requires
     g1-requires
+    five-requires
+    five-requires-2
+    mul-result
+    add-result
     returns)

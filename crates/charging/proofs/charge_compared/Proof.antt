@@ -1,5 +1,6 @@
 -- `charge_compared` meets its contract.
-use Rattle.charging.proofs.Order.{later-and}
+use native.Mathlib.Omega.{arith}
+use Rattle.charging.proofs.Order.{compared-is}
 use borrow.Author.Needs.{needs}
 use Rattle.charging.proofs.charge_compared.Statement.{statement}
 use Rattle.charging.proofs.charge_compared.Tie as tie
@@ -40,8 +41,23 @@ g9-requires c κs = search needs
 g10-requires : tie.Need-g10-requires
 g10-requires c κs = search needs
 
+five-requires : tie.Need-five-requires
+five-requires c κs = search needs
+
+seven-requires : tie.Need-seven-requires
+seven-requires c κs = search needs
+
+mul-result : tie.Need-mul-result
+mul-result c = search needs
+
+mul-result-2 : tie.Need-mul-result-2
+mul-result-2 c = search needs
+
+add-result : tie.Need-add-result
+add-result c = search needs
+
 returns : tie.Need-returns
-returns c = search later-and
+returns c = (search compared-is, omega arith)
 
 pub charge-compared-spec : {M : Type 1} → statement M
 charge-compared-spec =
@@ -59,4 +75,9 @@ charge-compared-spec =
     g8-requires
     g9-requires
     g10-requires
+    five-requires
+    seven-requires
+    mul-result
+    mul-result-2
+    add-result
     returns)

@@ -32,7 +32,7 @@ apart-requires c κs = search needs
 
 returns : tie.Need-returns
 returns c = let k = c .before .before .before in let m = k .before in let f = m .before in let a = f .before .before .before in
-    stimulus-seen _ _ (a .pre .1) _ _ _ (f .mask-at .ensures) (m .mask-at2 .ensures) (k .codes-at .ensures .0) _ (a .pre .2) (k .codes-at .ensures .1) (c .before .apart .ensures)
+    stimulus-seen _ _ (a .pre .1) _ _ _ (f .mask-at .ensures) (m .mask-at2 .ensures) (k .codes-at .ensures) _ (c .before .apart .ensures) (a .pre .2)
 
 pub see-stimulus-spec : {M : Type 1} → statement M
 see-stimulus-spec =

@@ -1,5 +1,7 @@
 -- `see_trace` meets its contract.
+use mathlib.Core.Path.{_∙_}
 use native.Mathlib.Omega.{arith}
+use native.Mathlib.Nat.{mul-one}
 use borrow.Author.Needs.{needs}
 use lib.Bits.{bitOr, or-lt}
 use Rattle.glances.proofs.Bits.{shifted}
@@ -56,10 +58,9 @@ returns : tie.Need-returns
 returns c = let z = c .before .before in let y = z .before .before in let x = y .before .before in
     let l = x .before .before in let d = l .before in let g = d .before in let k = g .before in
     let m = k .before in let f = m .before in let a = f .before .before .before in
-    trace-seen _ _ (a .pre .1) _ _ _ (f .mask-at .ensures) (m .mask-at2 .ensures) (k .codes-at .ensures .0)
-    _ _ _ (g .mask-at3 .ensures) (d .digit-at .ensures .0) (l .flags-at .ensures .0)
-    _ _ _ (a .pre .2) (k .codes-at .ensures .1) (l .flags-at .ensures .1)
-    (x .apart .ensures) (y .apart2 .ensures) (z .apart3 .ensures)
+    trace-seen _ _ (a .pre .1) _ _ _ (f .mask-at .ensures) (m .mask-at2 .ensures) (k .codes-at .ensures)
+    _ _ _ (g .mask-at3 .ensures) (d .digit-at .ensures .0 ∙ mul-one _) (l .flags-at .ensures)
+    _ _ _ (x .apart .ensures) (y .apart2 .ensures) (z .apart3 .ensures) (a .pre .2)
 
 pub see-trace-spec : {M : Type 1} → statement M
 see-trace-spec =

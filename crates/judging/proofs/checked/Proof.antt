@@ -1,5 +1,5 @@
 -- `checked` meets its contract: both ends of the tests.
-use Rattle.judging.proofs.Ready.{ready-of}
+use Rattle.charging.proofs.Ready.{ready-of}
 use Rattle.judging.proofs.Close.{good, bad}
 use borrow.Author.Needs.{needs}
 use Rattle.judging.proofs.checked.Statement.{statement}

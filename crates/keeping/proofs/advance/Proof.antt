@@ -1,5 +1,5 @@
 -- `advance` meets its contract, field by field.
-use Rattle.rulebook.specs.Charges.{judged}
+use Rattle.rulebook.specs.Charges.{nextJudge}
 use borrow.Author.Needs.{needs}
 use Rattle.keeping.proofs.advance.Statement.{statement}
 use Rattle.keeping.proofs.advance.Tie as tie
@@ -23,7 +23,7 @@ watch-after-requires : tie.Need-watch-after-requires
 watch-after-requires c κs = search needs
 
 returns : tie.Need-returns
-unfolding judged
+unfolding nextJudge
 returns c = cc
 
 pub advance-spec : {M : Type 1} → statement M

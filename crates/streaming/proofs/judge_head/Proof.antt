@@ -4,11 +4,11 @@ use borrow.Author.Needs.{needs}
 use Rattle.streaming.proofs.judge_head.Statement.{statement}
 use Rattle.streaming.proofs.judge_head.Tie as tie
 
-bench-requires : tie.Need-bench-requires
-bench-requires c κs = search needs
+tally-requires : tie.Need-tally-requires
+tally-requires c κs = search needs
 
 returns : tie.Need-returns
-returns c = judge-too-short _ _ _ (c .before .if1 .taken) (c .bench .ensures)
+returns c = judge-too-short _ _ _ (c .before .if1 .taken) (c .tally .ensures)
 
 read-header-requires : tie.Need-read-header-requires
 read-header-requires c κs = search needs
@@ -16,8 +16,8 @@ read-header-requires c κs = search needs
 enum-known-n : tie.Need-enum-known-n
 enum-known-n c = search needs
 
-bench-requires-2 : tie.Need-bench-requires-2
-bench-requires-2 c κs = search needs
+tally-requires-2 : tie.Need-tally-requires-2
+tally-requires-2 c κs = search needs
 
 enum-known-r : tie.Need-enum-known-r
 enum-known-r c = search needs
@@ -25,32 +25,32 @@ enum-known-r c = search needs
 put-refused-requires : tie.Need-put-refused-requires
 put-refused-requires c κs = search needs
 
-bench-requires-3 : tie.Need-bench-requires-3
-bench-requires-3 c κs = search needs
+tally-requires-3 : tie.Need-tally-requires-3
+tally-requires-3 c κs = search needs
 
 returns-2 : tie.Need-returns-2
 returns-2 c = let m = c .before .before in let h = m .before .before in
-    judge-begun _ _ _ _ (h .before .if1 .left) (h .read-header .ensures) _ _ (m .n .given .1) (c .bench2 .ensures)
+    judge-begun _ _ _ _ (h .before .if1 .left) (h .read-header .ensures) _ _ (m .n .given .1) (c .tally2 .ensures)
 
 same-length : tie.Need-same-length
 same-length c = search needs
 
 returns-3 : tie.Need-returns-3
 returns-3 c = let m = c .before .before .before .before .before .before in let h = m .before .before in
-    judge-refused _ _ _ _ (h .before .if1 .left) (h .read-header .ensures) _ _ _ (m .r .given .1) (c .bench3 .ensures) (c .before .before .before .put-refused .ensures)
+    judge-refused _ _ _ _ (h .before .if1 .left) (h .read-header .ensures) _ _ _ (m .r .given .1) (c .tally3 .ensures) (c .before .before .before .put-refused .ensures)
 
 pub judge-head-spec : {M : Type 1} → statement M
 judge-head-spec =
     tie.close
     (tie.spec
-    bench-requires
+    tally-requires
     returns
     read-header-requires
     enum-known-n
-    bench-requires-2
+    tally-requires-2
     enum-known-r
     put-refused-requires
-    bench-requires-3
+    tally-requires-3
     returns-2
     same-length
     returns-3)

@@ -1,7 +1,9 @@
 -- `codes_at` meets its contract.
+use mathlib.Core.Path.{_∙_}
 use native.Mathlib.Omega.{arith}
 use borrow.Author.Needs.{needs}
-use Rattle.glances.proofs.Compared.{codes-same}
+use Rattle.words.proofs.Words.{number-part}
+use Rattle.glances.proofs.Compared.{codes-seen}
 use Rattle.glances.proofs.codes.codes_at.Statement.{statement}
 use Rattle.glances.proofs.codes.codes_at.Tie as tie
 
@@ -17,17 +19,14 @@ part-eight-end c = search needs
 eight-requires : tie.Need-eight-requires
 eight-requires c κs = search needs
 
-transfer-requires : tie.Need-transfer-requires
-transfer-requires c κs = search needs
-
-kind-requires : tie.Need-kind-requires
-kind-requires c κs = search needs
-
-codes-text-requires : tie.Need-codes-text-requires
-codes-text-requires c κs = search needs
+no-codes-requires : tie.Need-no-codes-requires
+no-codes-requires c κs = search needs
 
 wrapping-sub-u64-requires : tie.Need-wrapping-sub-u64-requires
 wrapping-sub-u64-requires c κs = search needs
+
+unbuilt-requires : tie.Need-unbuilt-requires
+unbuilt-requires c κs = search needs
 
 cast-t16 : tie.Need-cast-t16
 cast-t16 c = search needs
@@ -39,10 +38,9 @@ cast-t18 : tie.Need-cast-t18
 cast-t18 c = search needs
 
 returns : tie.Need-returns
-returns c = let t = c .before in let k = t .before in let e = k .before .before in let a = e .before .before in
-    codes-same _ (record { below = λ i. omega (arith, a .shared-slice-known .given i) }) _ _ _ _
-    (record { ready = omega arith; trans = k .before .transfer .ensures .0; busy = k .before .transfer .ensures .1; burst = k .kind .ensures .0; built = k .kind .ensures .1 })
-    (a .before .pre .1) (e .eight .ensures) (t .codes-text .ensures) (c .wrapping-sub-u64 .ensures)
+returns c = let x = c .before in let t = x .before in let w = t .before in let k = w .before .before in let s = k .before .args .s .now in
+    codes-seen s (record { below = λ i. omega (arith, k .shared-slice-known .given i) }) _ _ (omega arith) _ (k .before .pre .1) (t .no-codes .ensures)
+    (x .wrapping-sub-u64 .ensures ∙ w .eight .ensures ∙ number-part 8 8 s 0) _ (c .unbuilt .ensures)
 
 pub codes-at-spec : {M : Type 1} → statement M
 codes-at-spec =
@@ -52,10 +50,9 @@ codes-at-spec =
     part-eight-start
     part-eight-end
     eight-requires
-    transfer-requires
-    kind-requires
-    codes-text-requires
+    no-codes-requires
     wrapping-sub-u64-requires
+    unbuilt-requires
     cast-t16
     cast-t17
     cast-t18

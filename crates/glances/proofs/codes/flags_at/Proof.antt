@@ -1,7 +1,9 @@
 -- `flags_at` meets its contract.
+use mathlib.Core.Path.{_∙_}
 use native.Mathlib.Omega.{arith}
 use borrow.Author.Needs.{needs}
-use Rattle.glances.proofs.Compared.{flags-same}
+use Rattle.words.proofs.Words.{number-part}
+use Rattle.glances.proofs.Compared.{flags-seen}
 use Rattle.glances.proofs.codes.flags_at.Statement.{statement}
 use Rattle.glances.proofs.codes.flags_at.Tie as tie
 
@@ -23,23 +25,22 @@ flags-text-requires c κs = search needs
 wrapping-sub-u64-requires : tie.Need-wrapping-sub-u64-requires
 wrapping-sub-u64-requires c κs = search needs
 
+cast-t10 : tie.Need-cast-t10
+cast-t10 c = search needs
+
 cast-t13 : tie.Need-cast-t13
 cast-t13 c = search needs
-
-cast-t14 : tie.Need-cast-t14
-cast-t14 c = search needs
-
-cast-t15 : tie.Need-cast-t15
-cast-t15 c = search needs
 
 cast-t16 : tie.Need-cast-t16
 cast-t16 c = search needs
 
+cast-t18 : tie.Need-cast-t18
+cast-t18 c = search needs
+
 returns : tie.Need-returns
-returns c = let t = c .before in let e = t .before in let a = e .before .before in
-    flags-same _ (record { below = λ i. omega (arith, a .shared-slice-known .given i) }) _ _ _
-    (record { lock = omega arith; decide = omega arith; granted = omega arith; request = omega arith })
-    (e .eight .ensures) (t .flags-text .ensures) (c .wrapping-sub-u64 .ensures)
+returns c = let t = c .before in let w = t .before in let k = w .before .before in let s = k .before .args .s .now in
+    flags-seen s (record { below = λ i. omega (arith, k .shared-slice-known .given i) }) _ _ (omega arith) (t .flags-text .ensures)
+    (c .wrapping-sub-u64 .ensures ∙ w .eight .ensures ∙ number-part 8 23 s 0)
 
 pub flags-at-spec : {M : Type 1} → statement M
 flags-at-spec =
@@ -51,8 +52,8 @@ flags-at-spec =
     eight-requires
     flags-text-requires
     wrapping-sub-u64-requires
+    cast-t10
     cast-t13
-    cast-t14
-    cast-t15
     cast-t16
+    cast-t18
     returns)

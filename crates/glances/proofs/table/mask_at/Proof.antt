@@ -1,6 +1,6 @@
 -- `mask_at` meets its contract.
-use Rattle.fields.proofs.Digits.{mask-good}
 use borrow.Author.Needs.{needs}
+use Rattle.glances.proofs.Columns.{mask-seen}
 use Rattle.glances.proofs.table.mask_at.Statement.{statement}
 use Rattle.glances.proofs.table.mask_at.Tie as tie
 
@@ -25,26 +25,17 @@ add-digit-at-3 c = search needs
 digit-at-requires-4 : tie.Need-digit-at-requires-4
 digit-at-requires-4 c κs = search needs
 
-mul-result : tie.Need-mul-result
-mul-result c = search needs
-
 add-result : tie.Need-add-result
 add-result c = search needs
 
-mul-result-2 : tie.Need-mul-result-2
-mul-result-2 c = search needs
-
 add-result-2 : tie.Need-add-result-2
 add-result-2 c = search needs
-
-mul-result-3 : tie.Need-mul-result-3
-mul-result-3 c = search needs
 
 add-result-3 : tie.Need-add-result-3
 add-result-3 c = search needs
 
 returns : tie.Need-returns
-returns c = search mask-good
+returns c = search mask-seen
 
 pub mask-at-spec : {M : Type 1} → statement M
 mask-at-spec =
@@ -57,10 +48,7 @@ mask-at-spec =
     digit-at-requires-3
     add-digit-at-3
     digit-at-requires-4
-    mul-result
     add-result
-    mul-result-2
     add-result-2
-    mul-result-3
     add-result-3
     returns)

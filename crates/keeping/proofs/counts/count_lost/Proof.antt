@@ -5,6 +5,7 @@ use borrow.Author.Needs.{needs}
 use native.Mathlib.Omega.{arith}
 use native.Mathlib.Nat.{le-antisymm}
 use lib.ListN.{length, take, length-set}
+use Rattle.rules.specs.Masks.{high}
 use Rattle.rulebook.specs.Columns.{someBelow}
 use Rattle.rulebook.specs.Charges.{listFrom}
 use Rattle.keeping.specs.Lost.{withLost, countBy, reachesBy}
@@ -14,11 +15,14 @@ use Rattle.keeping.proofs.counts.count_lost.Statement.{statement}
 use Rattle.keeping.proofs.counts.count_lost.Tie as tie
 
 abbrev Inv-loop : tie.InvT-loop
-Inv-loop requests grants n old next₀ reached₀ i₀ next reached i =
+Inv-loop requests grants n old mask next₀ reached₀ i₀ next reached i =
     (i ≤ 16) × (length (next .lost) ≡ 16) × (next ≡ withLost next₀ (next .lost)) × (take i (next .lost) ≡ listFrom 0 i (countBy n requests grants old)) × (reached ≡ someBelow i (reachesBy n requests grants old))
 
 abbrev μ-loop : tie.MeasureT-loop
-μ-loop requests grants n old next₀ reached₀ i₀ next reached i = 16 - i
+μ-loop requests grants n old mask next₀ reached₀ i₀ next reached i = 16 - i
+
+losers-requires : tie.Need-losers-requires Inv-loop μ-loop
+losers-requires c κs = search needs
 
 loop-holds : tie.Need-loop-holds Inv-loop μ-loop
 unfolding someBelow listFrom
@@ -33,14 +37,14 @@ mul-lost c = search needs
 array-read-lost : tie.Need-array-read-lost Inv-loop μ-loop
 array-read-lost c = search needs
 
-loses-requires : tie.Need-loses-requires Inv-loop μ-loop
-loses-requires c κs = search needs
+shr-more : tie.Need-shr-more Inv-loop μ-loop
+shr-more c = search needs
 
 add-reached : tie.Need-add-reached Inv-loop μ-loop
-add-reached c = omega (arith, c .before .before .before .before .pre .below (c .before .before .loop .i) (omega arith))
+add-reached c = omega (arith, c .before .before .before .before .pre .below (c .before .loop .i) (omega arith))
 
 longer-requires : tie.Need-longer-requires Inv-loop μ-loop
-longer-requires c κs = omega (arith, c .before .before .before .before .pre .below (c .before .before .loop .i) (omega arith))
+longer-requires c κs = omega (arith, c .before .before .before .before .pre .below (c .before .loop .i) (omega arith))
 
 cast-next : tie.Need-cast-next Inv-loop μ-loop
 cast-next c = search needs
@@ -58,18 +62,21 @@ loop-less : tie.Need-loop-less Inv-loop μ-loop
 loop-less c = omega arith
 
 loop-again : tie.Need-loop-again Inv-loop μ-loop
-loop-again c = let l = c .before .before .before .loop in (
-  omega arith,
-  simp length-set (l .inv .1),
-  with-set (c .before .before .before .before .before .args .j) _ _ (l .inv .2),
-  stored-next _ _ _ _ (omega arith) (l .inv .3) (c .longer .ensures ∙ rw (c .before .loses .ensures)),
-  some-next _ _ _ _ (l .inv .4) (rw (c .before .loses .ensures)),
-)
+unfolding high
+loop-again c =
+    let l = c .before .before .loop in
+    let e = c .before .before .before .losers .ensures .each (l .i) in (
+      omega arith,
+      simp length-set (l .inv .1),
+      with-set (c .before .before .before .before .before .args .j) _ _ (l .inv .2),
+      stored-next _ _ _ _ (omega arith) (l .inv .3) (c .longer .ensures ∙ rw e),
+      some-next _ _ _ _ (l .inv .4) (rw e),
+    )
 
 returns : tie.Need-returns Inv-loop μ-loop
 returns c = let l = c .before .loop in
     let e = le-antisymm (l .inv .0) (c .loop-test .left) in
-    (with-all (c .before .before .before .args .j) _ _ (l .inv .2) (stored-all _ _ _ _ (l .inv .1) e (l .inv .3)), rw (← e) (l .inv .4))
+    (with-all (c .before .before .before .before .args .j) _ _ (l .inv .2) (stored-all _ _ _ _ (l .inv .1) e (l .inv .3)), rw (← e) (l .inv .4))
 
 pub count-lost-spec : {M : Type 1} → statement M
 count-lost-spec =
@@ -77,11 +84,12 @@ count-lost-spec =
     (tie.spec
     Inv-loop
     μ-loop
+    losers-requires
     loop-holds
     cast-lost
     mul-lost
     array-read-lost
-    loses-requires
+    shr-more
     add-reached
     longer-requires
     cast-next

@@ -10,11 +10,11 @@ handover-requires c κs = search needs
 opens-requires : tie.Need-opens-requires
 opens-requires c κs = search needs
 
-watch-on-requires : tie.Need-watch-on-requires
-watch-on-requires c κs = search needs
+later-watch-requires : tie.Need-later-watch-requires
+later-watch-requires c κs = search needs
 
-watch-from-requires : tie.Need-watch-from-requires
-watch-from-requires c κs = search needs
+opening-watch-requires : tie.Need-opening-watch-requires
+opening-watch-requires c κs = search needs
 
 pick-watch-requires : tie.Need-pick-watch-requires
 pick-watch-requires c κs = search needs
@@ -35,8 +35,8 @@ watch-after-spec =
     (tie.spec
     handover-requires
     opens-requires
-    watch-on-requires
-    watch-from-requires
+    later-watch-requires
+    opening-watch-requires
     pick-watch-requires
     pick-watch-requires-2
     pick-watch-requires-3

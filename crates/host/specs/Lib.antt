@@ -1,0 +1,2 @@
+-- What the host's tests say.
+pub mod Tests

@@ -1,0 +1,2 @@
+-- What lent bytes hold, in plain numbers.
+pub mod Octets

@@ -1,0 +1,4 @@
+-- Laws of this crate's proofs.
+pub mod Sides
+pub mod Texts
+pub mod Words

@@ -1,0 +1,2 @@
+-- What a trace line is made of.
+pub mod Prints

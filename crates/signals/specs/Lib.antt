@@ -1,0 +1,2 @@
+-- Numbers that stand for flags.
+pub mod Flags

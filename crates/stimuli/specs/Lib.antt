@@ -1,0 +1,2 @@
+-- Where a block of stimulus lines stops.
+pub mod Stops
