@@ -61,7 +61,7 @@ static uint32_t step(struct inputs x, struct lent *state, size_t state_len, stru
                            line_len ? line->is + AHEAD : 0, line_len);
 }
 
-/* A call that is taken, with buffers of the given lengths. A null line is not compared. */
+/* A call that is taken, with buffers of the given lengths. */
 static void taken(const char *name, struct inputs x, const uint8_t *before, const uint8_t *after, const uint8_t *text,
                   size_t state_len, size_t line_len) {
     struct lent state, line;
@@ -69,7 +69,7 @@ static void taken(const char *name, struct inputs x, const uint8_t *before, cons
     lend(&line, 0, 0);
     check(name, "answer", ESPIGAMBRE_TAKEN, step(x, &state, state_len, &line, line_len));
     compare(name, "state", &state, after, ESPIGAMBRE_STATE_SIZE);
-    compare(name, "line", &line, text ? text : line.is + AHEAD, ESPIGAMBRE_LINE_SIZE);
+    compare(name, "line", &line, text, ESPIGAMBRE_LINE_SIZE);
 }
 
 static void refused(const char *name, uint32_t number, struct inputs x, const uint8_t *before, size_t state_len,
@@ -82,14 +82,13 @@ static void refused(const char *name, uint32_t number, struct inputs x, const ui
     compare(name, "line", &line, 0, 0);
 }
 
-/* ---- the whole run of document 01, as the page prints it */
+/* ---- what document 01 says of a cycle, by hand from the page: its trace line, and the twelve bytes after it */
 
-static const char *const run[] = {
-    "0000 0000 0 0 0 0001 0 0 1 0 0", "0006 0000 1 0 0 0001 0 0 1 0 0", "0006 0000 1 0 0 0002 0 0 0 1 0",
-    "0006 0000 1 2 3 0002 1 0 0 0 1", "0006 0000 1 3 3 0002 1 0 0 0 1", "0006 0000 0 3 3 0002 1 0 0 0 1",
-    "0006 0000 1 3 3 0002 1 0 0 0 1", "0006 0000 1 3 3 0002 1 0 1 0 1", "0004 0000 1 0 0 0004 1 0 0 1 0",
-    "0004 0000 1 2 0 0004 2 0 1 0 1",
-};
+/* A line as the page prints it, where spaces stand for tabs. */
+static void print(uint8_t *text, const char *row) {
+    for (int i = 0; i < ESPIGAMBRE_LINE_SIZE - 1; i++) text[i] = (uint8_t)(row[i] == ' ' ? '\t' : row[i]);
+    text[ESPIGAMBRE_LINE_SIZE - 1] = '\n';
+}
 
 static uint32_t column(const char *row, int at, int digits) {
     uint32_t v = 0;
@@ -97,58 +96,98 @@ static uint32_t column(const char *row, int at, int digits) {
     return v;
 }
 
+/* The inputs of a cycle are the first five columns of its line. */
+static struct inputs inputs_of(const char *row) {
+    struct inputs x = {column(row, 0, 4), column(row, 5, 4), column(row, 10, 1), column(row, 12, 1), column(row, 14, 1)};
+    return x;
+}
+
+/* The whole run, as the page prints it. */
+static const struct {
+    const char *line;
+    uint8_t after[12];
+} run[] = {
+    {"0000 0000 0 0 0 0001 0 0 1 0 0", {3, 0, 0, 0, 0, 0, 0, 0, 1}}, /* nobody asks, and 0 has the bus */
+    {"0006 0000 1 0 0 0001 0 0 1 0 0", {3, 1, 0, 0, 1, 0, 0, 0, 2}}, /* 1 is next */
+    {"0006 0000 1 0 0 0002 0 0 0 1 0", {3, 1, 1, 0, 0, 0, 0, 0, 3}}, /* a handover */
+    {"0006 0000 1 2 3 0002 1 0 0 0 1", {3, 1, 1, 0, 0, 1, 3, 0, 4}}, /* its INCR4 opens */
+    {"0006 0000 1 3 3 0002 1 0 0 0 1", {3, 1, 1, 0, 0, 1, 2, 0, 5}},
+    {"0006 0000 0 3 3 0002 1 0 0 0 1", {3, 1, 1, 0, 0, 1, 2, 0, 6}}, /* not ready */
+    {"0006 0000 1 3 3 0002 1 0 0 0 1", {3, 1, 1, 0, 0, 1, 1, 0, 7}},
+    {"0006 0000 1 3 3 0002 1 0 1 0 1", {3, 2, 1, 0, 1, 3, 0, 0, 8}}, /* the last beat: 2 is next */
+    {"0004 0000 1 0 0 0004 1 0 0 1 0", {3, 2, 2, 0, 0, 0, 0, 0, 9}}, /* a handover */
+    {"0004 0000 1 2 0 0004 2 0 1 0 1", {3, 2, 2, 0, 1, 3, 0, 0, 10}}, /* a SINGLE, and 2 again */
+};
+
 static void whole_run(void) {
-    static const uint8_t end[] = {3, 2, 2, 0, 1, 3, 0, 0, 10, 0, 0, 0};
     struct lent state, line;
     lend(&state, 0, 0);
     check("run", "reset", ESPIGAMBRE_TAKEN, espigambre_reset(3, state.is + AHEAD, ESPIGAMBRE_STATE_SIZE));
-    for (int t = 0; t < 10; t++) {
-        const char *row = run[t];
-        struct inputs x = {column(row, 0, 4), column(row, 5, 4), column(row, 10, 1), column(row, 12, 1), column(row, 14, 1)};
+    for (size_t t = 0; t < sizeof run / sizeof *run; t++) {
         uint8_t text[ESPIGAMBRE_LINE_SIZE];
-        for (int i = 0; i < 30; i++) text[i] = (uint8_t)(row[i] == ' ' ? '\t' : row[i]);
-        text[30] = '\n';
+        print(text, run[t].line);
         lend(&line, 0, 0);
-        check("run", "answer", ESPIGAMBRE_TAKEN, step(x, &state, ESPIGAMBRE_STATE_SIZE, &line, ESPIGAMBRE_LINE_SIZE));
-        compare("run", row, &line, text, ESPIGAMBRE_LINE_SIZE);
-        check("run", "count", t + 1, state.is[AHEAD + 8]);
+        check("run", "answer", ESPIGAMBRE_TAKEN,
+              step(inputs_of(run[t].line), &state, ESPIGAMBRE_STATE_SIZE, &line, ESPIGAMBRE_LINE_SIZE));
+        compare("run", run[t].line, &line, text, ESPIGAMBRE_LINE_SIZE);
+        compare("run", "state", &state, run[t].after, ESPIGAMBRE_STATE_SIZE);
     }
-    compare("run", "state at the end", &state, end, ESPIGAMBRE_STATE_SIZE);
 }
 
-/* ---- the cases P1 to P11, and others whose bytes the page fixes: state before, inputs, state after */
-
+/* The cases P1 to P11, and one for each further sentence of "Phase after a cycle", DECIDE and the walk. */
 static const struct {
     const char *name;
     uint8_t before[12];
-    struct inputs x;
+    const char *line;
     uint8_t after[12];
 } cases[] = {
-    {"P1", {3, 0, 0, 0, 0, 3}, {0, 0, 1, 0, 0}, {3, 0, 0, 0, 0, 3, 0, 0, 1}},
-    {"P2", {3, 0, 0, 0, 0, 3}, {6, 0, 1, 0, 0}, {3, 1, 0, 0, 1, 3, 0, 0, 1}},
-    {"P3", {3, 1, 1, 0, 0, 3}, {6, 0, 1, 0, 0}, {3, 2, 1, 0, 1, 3, 0, 0, 1}},
-    {"P4", {3, 2, 2, 0, 0, 3}, {4, 0, 1, 0, 0}, {3, 2, 2, 0, 1, 3, 0, 0, 1}},
-    {"P5", {3, 2, 2, 0, 0, 3}, {0, 0, 1, 0, 0}, {3, 0, 2, 0, 1, 3, 0, 0, 1}},
-    {"P6", {3, 1, 0, 0, 1, 3}, {0, 0, 0, 0, 0}, {3, 1, 0, 0, 1, 3, 0, 0, 1}},
-    {"P7", {3, 1, 0, 0, 1, 3}, {0, 2, 1, 0, 0}, {3, 1, 1, 1, 0, 0, 0, 0, 1}},
-    {"P8", {3, 1, 1, 0, 0, 1, 1}, {2, 0, 1, 0, 0}, {3, 1, 1, 0, 1, 3, 0, 0, 1}},
-    {"P9", {3, 1, 1, 0, 0, 1, 1}, {2, 0, 0, 0, 0}, {3, 1, 1, 0, 0, 1, 1, 0, 1}},
-    {"P10", {3, 1, 1, 0, 0, 0}, {6, 0, 0, 2, 3}, {3, 1, 1, 0, 0, 0, 0, 0, 1}},
-    {"P11", {3, 1, 1, 1, 0, 3}, {6, 2, 1, 0, 0}, {3, 1, 1, 1, 0, 3, 0, 0, 1}},
-    {"INCR4 opens", {3, 1, 1, 0, 0, 0}, {2, 0, 1, 2, 3}, {3, 1, 1, 0, 0, 1, 3, 0, 1}},
-    {"Fixed 3", {3, 1, 1, 0, 0, 1, 3}, {2, 0, 1, 3, 3}, {3, 1, 1, 0, 0, 1, 2, 0, 1}},
-    {"locked INCR opens", {3, 1, 1, 1, 0, 0}, {2, 0, 1, 2, 1}, {3, 1, 1, 1, 0, 2, 0, 0, 1}},
-    {"Open stays", {3, 1, 1, 1, 0, 2}, {2, 0, 1, 3, 1}, {3, 1, 1, 1, 0, 2, 0, 0, 1}},
-    {"sixteen masters", {16, 15, 15, 0, 0, 3}, {0x8001, 0, 1, 0, 0}, {16, 0, 15, 0, 1, 3, 0, 0, 1}},
-    {"the last mask", {16, 0, 0, 0, 0, 3}, {0xffff, 0xffff, 1, 0, 0}, {16, 1, 0, 0, 1, 3, 0, 0, 1}},
-    {"count 255", {3, 0, 0, 0, 0, 3, 0, 0, 255}, {0, 0, 1, 0, 0}, {3, 0, 0, 0, 0, 3, 0, 0, 0, 1}},
-    {"count 65535", {3, 0, 0, 0, 0, 3, 0, 0, 255, 255}, {0, 0, 1, 0, 0}, {3, 0, 0, 0, 0, 3, 0, 0, 0, 0, 1}},
-    {"count 999,999", {3, 0, 0, 0, 0, 3, 0, 0, 0x3f, 0x42, 0x0f}, {0, 0, 1, 0, 0}, {3, 0, 0, 0, 0, 3, 0, 0, 0x40, 0x42, 0x0f}},
+    {"P1", {3, 0, 0, 0, 0, 3}, "0000 0000 1 0 0 0001 0 0 1 0 0", {3, 0, 0, 0, 0, 3, 0, 0, 1}},
+    {"P2", {3, 0, 0, 0, 0, 3}, "0006 0000 1 0 0 0001 0 0 1 0 0", {3, 1, 0, 0, 1, 3, 0, 0, 1}},
+    {"P3", {3, 1, 1, 0, 0, 3}, "0006 0000 1 0 0 0002 1 0 1 0 1", {3, 2, 1, 0, 1, 3, 0, 0, 1}},
+    {"P4", {3, 2, 2, 0, 0, 3}, "0004 0000 1 0 0 0004 2 0 1 0 1", {3, 2, 2, 0, 1, 3, 0, 0, 1}},
+    {"P5", {3, 2, 2, 0, 0, 3}, "0000 0000 1 0 0 0004 2 0 1 0 0", {3, 0, 2, 0, 1, 3, 0, 0, 1}},
+    {"P6", {3, 1, 0, 0, 1, 3}, "0000 0000 0 0 0 0002 0 0 0 1 0", {3, 1, 0, 0, 1, 3, 0, 0, 1}},
+    {"P7", {3, 1, 0, 0, 1, 3}, "0000 0002 1 0 0 0002 0 0 0 1 0", {3, 1, 1, 1, 0, 0, 0, 0, 1}},
+    {"P8", {3, 1, 1, 0, 0, 1, 1}, "0002 0000 1 0 0 0002 1 0 1 0 1", {3, 1, 1, 0, 1, 3, 0, 0, 1}},
+    {"P9", {3, 1, 1, 0, 0, 1, 1}, "0002 0000 0 0 0 0002 1 0 0 0 1", {3, 1, 1, 0, 0, 1, 1, 0, 1}},
+    {"P10", {3, 1, 1, 0, 0, 0}, "0006 0000 0 2 3 0002 1 0 0 0 1", {3, 1, 1, 0, 0, 0, 0, 0, 1}},
+    {"P11", {3, 1, 1, 1, 0, 3}, "0006 0002 1 0 0 0002 1 1 0 0 1", {3, 1, 1, 1, 0, 3, 0, 0, 1}},
+    {"Fresh and IDLE", {3, 1, 1, 0, 0, 0}, "0006 0000 1 0 0 0002 1 0 1 0 1", {3, 2, 1, 0, 1, 0, 0, 0, 1}},
+    {"INCR4 opens", {3, 1, 1, 0, 0, 0}, "0002 0000 1 2 3 0002 1 0 0 0 1", {3, 1, 1, 0, 0, 1, 3, 0, 1}},
+    {"locked INCR opens", {3, 1, 1, 1, 0, 0}, "0002 0000 1 2 1 0002 1 1 0 0 1", {3, 1, 1, 1, 0, 2, 0, 0, 1}},
+    {"locked INCR waits", {3, 1, 1, 1, 0, 0}, "0006 0000 0 2 1 0002 1 1 0 0 1", {3, 1, 1, 1, 0, 0, 0, 0, 1}},
+    {"other INCR opens", {3, 1, 1, 0, 0, 0}, "0006 0000 1 2 1 0002 1 0 1 0 1", {3, 2, 1, 0, 1, 3, 0, 0, 1}},
+    {"other INCR waits", {3, 1, 1, 0, 0, 0}, "0006 0000 0 2 1 0002 1 0 1 0 1", {3, 2, 1, 0, 1, 0, 0, 0, 1}},
+    {"SINGLE opens", {3, 1, 1, 1, 0, 0}, "0002 0000 1 2 0 0002 1 1 1 0 1", {3, 1, 1, 1, 1, 3, 0, 0, 1}},
+    {"SINGLE waits", {3, 1, 1, 1, 0, 0}, "0006 0000 0 2 0 0002 1 1 1 0 1", {3, 2, 1, 1, 1, 0, 0, 0, 1}},
+    {"Fixed 3", {3, 1, 1, 0, 0, 1, 3}, "0002 0000 1 3 3 0002 1 0 0 0 1", {3, 1, 1, 0, 0, 1, 2, 0, 1}},
+    {"Fixed 2, not ready", {3, 1, 1, 0, 0, 1, 2}, "0002 0000 0 3 3 0002 1 0 0 0 1", {3, 1, 1, 0, 0, 1, 2, 0, 1}},
+    {"Open stays", {3, 1, 1, 1, 0, 2}, "0002 0000 1 3 1 0002 1 1 0 0 1", {3, 1, 1, 1, 0, 2, 0, 0, 1}},
+    {"Open ends, not ready", {3, 1, 1, 1, 0, 2}, "0004 0000 0 3 1 0002 1 1 1 0 0", {3, 2, 1, 1, 1, 3, 0, 0, 1}},
+    {"Open ends under a lock", {3, 1, 1, 1, 0, 2}, "0004 0002 1 3 1 0002 1 1 0 0 0", {3, 1, 1, 1, 0, 3, 0, 0, 1}},
+    {"Done and NONSEQ", {3, 1, 1, 0, 0, 3}, "0006 0000 1 2 3 0002 1 0 1 0 1", {3, 2, 1, 0, 1, 3, 0, 0, 1}},
+    {"HLOCK of another", {3, 1, 1, 1, 0, 3}, "0006 0004 1 0 0 0002 1 1 1 0 1", {3, 2, 1, 1, 1, 3, 0, 0, 1}},
+    {"HLOCK, HMASTLOCK low", {3, 1, 1, 0, 0, 3}, "0006 0002 1 0 0 0002 1 0 1 0 1", {3, 2, 1, 0, 1, 3, 0, 0, 1}},
+    {"GRANTED in Fresh", {3, 2, 1, 0, 1, 0}, "0006 0000 0 2 3 0004 1 0 0 1 1", {3, 2, 1, 0, 1, 0, 0, 0, 1}},
+    {"HLOCK of m at a handover", {3, 1, 0, 1, 1, 3}, "0001 0001 1 0 0 0002 0 1 0 1 1", {3, 1, 1, 0, 0, 0, 0, 0, 1}},
+    {"around", {3, 1, 1, 0, 0, 3}, "0003 0000 1 0 0 0002 1 0 1 0 1", {3, 0, 1, 0, 1, 3, 0, 0, 1}},
+    {"two masters", {2, 1, 1, 0, 0, 3}, "0003 0000 1 0 0 0002 1 0 1 0 1", {2, 0, 1, 0, 1, 3, 0, 0, 1}},
+    {"sixteen masters", {16, 15, 15, 0, 0, 3}, "8001 0000 1 0 0 8000 f 0 1 0 1", {16, 0, 15, 0, 1, 3, 0, 0, 1}},
+    {"a long walk", {16, 10, 10, 0, 0, 3}, "0600 0000 1 0 0 0400 a 0 1 0 1", {16, 9, 10, 0, 1, 3, 0, 0, 1}},
+    {"the last mask", {16, 0, 0, 0, 0, 3}, "ffff ffff 1 0 0 0001 0 0 1 0 1", {16, 1, 0, 0, 1, 3, 0, 0, 1}},
+    {"count 255", {3, 0, 0, 0, 0, 3, 0, 0, 255}, "0000 0000 1 0 0 0001 0 0 1 0 0", {3, 0, 0, 0, 0, 3, 0, 0, 0, 1}},
+    {"count 65535", {3, 0, 0, 0, 0, 3, 0, 0, 255, 255}, "0000 0000 1 0 0 0001 0 0 1 0 0", {3, 0, 0, 0, 0, 3, 0, 0, 0, 0, 1}},
+    {"count 999,999", {3, 0, 0, 0, 0, 3, 0, 0, 0x3f, 0x42, 0x0f}, "0000 0000 1 0 0 0001 0 0 1 0 0",
+     {3, 0, 0, 0, 0, 3, 0, 0, 0x40, 0x42, 0x0f}},
 };
 
 static void all_cases(void) {
-    for (size_t i = 0; i < sizeof cases / sizeof *cases; i++)
-        taken(cases[i].name, cases[i].x, cases[i].before, cases[i].after, 0, ESPIGAMBRE_STATE_SIZE, ESPIGAMBRE_LINE_SIZE);
+    for (size_t i = 0; i < sizeof cases / sizeof *cases; i++) {
+        uint8_t text[ESPIGAMBRE_LINE_SIZE];
+        print(text, cases[i].line);
+        taken(cases[i].name, inputs_of(cases[i].line), cases[i].before, cases[i].after, text, ESPIGAMBRE_STATE_SIZE,
+              ESPIGAMBRE_LINE_SIZE);
+    }
 }
 
 /* ---- bytes that are no state, or none that is well formed: 10 */
@@ -254,13 +293,14 @@ static void reset(const char *name, uint32_t number, uint32_t n, size_t length) 
 }
 
 static void all_resets(void) {
-    for (uint32_t n = 2; n <= 16; n++) reset("reset", ESPIGAMBRE_TAKEN, n, ESPIGAMBRE_STATE_SIZE);
+    reset("P12, n = 17", ESPIGAMBRE_MASTERS, 17, ESPIGAMBRE_STATE_SIZE);
+    reset("P12, n = 16", ESPIGAMBRE_TAKEN, 16, ESPIGAMBRE_STATE_SIZE);
+    for (uint32_t n = 2; n <= 15; n++) reset("reset", ESPIGAMBRE_TAKEN, n, ESPIGAMBRE_STATE_SIZE);
     for (size_t i = ESPIGAMBRE_STATE_SIZE; i < 60; i++) reset("reset of a longer state", ESPIGAMBRE_TAKEN, 16, i);
     for (size_t i = 0; i < ESPIGAMBRE_STATE_SIZE; i++) reset("reset of a short state", ESPIGAMBRE_SHORT, 3, i);
     reset("reset, 9 before 1", ESPIGAMBRE_SHORT, 17, 11);
     reset("reset to 0", ESPIGAMBRE_MASTERS, 0, ESPIGAMBRE_STATE_SIZE);
     reset("reset to 1", ESPIGAMBRE_MASTERS, 1, ESPIGAMBRE_STATE_SIZE);
-    reset("reset to 17", ESPIGAMBRE_MASTERS, 17, ESPIGAMBRE_STATE_SIZE);
     reset("reset to 258", ESPIGAMBRE_MASTERS, 258, ESPIGAMBRE_STATE_SIZE);
     reset("reset to 2^32 - 1", ESPIGAMBRE_MASTERS, 0xffffffff, ESPIGAMBRE_STATE_SIZE);
 }
