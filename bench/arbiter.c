@@ -7,40 +7,38 @@
 static struct input in;
 static struct output out;
 
-/* The trace line of a stimulus line that was taken: its own fields, and six more. */
-static inline void put_trace(u8 *at, const u8 *line, u32 g, const struct cycle *c) {
-    store8(at, load8(line));
-    store8(at + 7, load8(line + 7));
-    put_six(at + 15, g, c);
-}
+/* the texts of a master by its place */
+#define GRANT_AT(i) [PLACE(i)] = GRANT(i)
+#define OWNER_AT(i) [PLACE(i)] = OWNER(i)
+static const u64 grants[] = {MASTERS(GRANT_AT)}, owners[] = {MASTERS(OWNER_AT)};
 
-/* Takes the whole lines of a block; answers 0 or the refusal of the line after `count` cycles. */
-APART u32 take_block(u32 n, struct arbiter *state, u32 *count) {
+/* Takes so many lines, up to one that is bad; answers how many. */
+APART u32 take_lines(struct arbiter *state, u64 absent, u64 lines) {
     struct arbiter a = *state;
-    u32 refusal = 0, cycles = *count;
-    const u8 *line = in.bytes + in.at, *end = in.bytes + in.end;
+    const u8 *start = in.bytes + in.at, *line = start, *end = line + lines * STIM_LINE;
     u8 *at = room(&out, IN_BLOCK / STIM_LINE * TRACE_LINE);
-    for (; end - line >= STIM_LINE; line += STIM_LINE, at += TRACE_LINE, cycles++) {
-        struct cycle c;
-        u32 g = a.g;
-        refusal = take_stimulus(line, n, &c);
-        if (!refusal && cycles == LIMIT) refusal = 8;
-        if (refusal) break;
-        arbitrate(&a, &c);
-        put_trace(at, line, g, &c);
+    for (; line != end; line += STIM_LINE, at += TRACE_LINE) {
+        struct inputs c;
+        u64 g = a.g, m = a.m;
+        if (RARELY(take_inputs(line, '\n', absent, &c))) break;
+        store8(at, load8(line));
+        store8(at + 8, load8(line + 8));
+        put_six(at + 15, grants[g], owners[m], arbitrate(&a, &c));
     }
-    in.at = (u64)(line - in.bytes);
     fit(&out, at);
     *state = a;
-    *count = cycles;
-    return refusal;
+    in.at += (u64)(line - start);
+    return (u32)((line - start) / STIM_LINE);
 }
 
+/* Takes all lines of the input; answers 0 or the refusal of the line after `count` cycles. */
 static u32 run(u32 n, u32 *count) {
     struct arbiter a = RESET;
     for (;;) {
-        u32 refusal = take_block(n, &a, count);
-        if (refusal) return refusal;
+        u64 lines = (in.end - in.at) / STIM_LINE, left = LIMIT - *count;
+        u32 taken = take_lines(&a, absent_masters(n), lines < left ? lines : left);
+        *count += taken;
+        if (taken < lines) return refusal_of(in.bytes + in.at, stimulus, n);
         fill(&in);
         if (in.end < STIM_LINE) return in.end ? 3 : 0;
     }

@@ -4,6 +4,7 @@
 #define BYTES_H
 
 typedef unsigned char u8;
+typedef unsigned short u16;
 typedef unsigned int u32;
 typedef unsigned long u64;
 
@@ -16,6 +17,12 @@ typedef unsigned long u64;
 
 /* the byte b in each place of a word */
 #define EACH(b) (0x0101010101010101ul * (b))
+
+INLINE u32 load2(const u8 *at) {
+    u16 word;
+    __builtin_memcpy(&word, at, 2);
+    return word;
+}
 
 INLINE u32 load4(const u8 *at) {
     u32 word;

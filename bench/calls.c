@@ -1,6 +1,7 @@
 /* `calls plain N CALLS` and `calls product N CALLS` call the host's step so many times, as a simulator
-   does; `calls same N CALLS` gives both the same states, inputs and buffers, good and bad, and compares
-   the answers and every byte. Status 0 if all went well. */
+   does; `calls none N CALLS` calls a step that does nothing; `calls same N CALLS` gives both the same
+   states, inputs and buffers, good and bad, and compares the answers and every byte. Status 0 if all went
+   well. */
 #include "step.h"
 
 enum { INPUTS = 4096, RUN = 1000000, ROOM = 48 };
@@ -91,9 +92,10 @@ static u32 number(const char *text) {
 int main(int words, char **word) {
     if (words != 4) return 2;
     u32 n = number(word[2]), calls = number(word[3]);
-    switch (word[1][1]) { /* pLain, pRoduct, sAme */
+    switch (word[1][1]) { /* pLain, pRoduct, nOne, sAme */
     case 'l': return time_calls(plain_reset, plain_step, n, calls);
     case 'r': return time_calls(espigambre_reset, espigambre_step, n, calls);
+    case 'o': return time_calls(plain_reset, no_step, n, calls);
     case 'a': return compare_calls(n, calls);
     default: return 2;
     }

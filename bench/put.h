@@ -4,31 +4,35 @@
 
 #include "lines.h"
 
+/* the sixteen pairs of hex digits that begin with d */
+#define PAIRS(d) d "0" d "1" d "2" d "3" d "4" d "5" d "6" d "7" d "8" d "9" d "a" d "b" d "c" d "d" d "e" d "f"
+
+static const u8 pairs[] = PAIRS("0") PAIRS("1") PAIRS("2") PAIRS("3") PAIRS("4") PAIRS("5") PAIRS("6") PAIRS("7")
+                          PAIRS("8") PAIRS("9") PAIRS("a") PAIRS("b") PAIRS("c") PAIRS("d") PAIRS("e") PAIRS("f");
+
 /* Four hex digits as they stand in a line. */
-INLINE u32 hex4(u32 mask) {
-    u32 digits = mask >> 12 | (mask & 0x0f00) | (mask & 0x00f0) << 12 | (mask & 0x000f) << 24;
-    u32 letters = (digits + 0x06060606) >> 4 & 0x01010101;
-    return digits + 0x30303030 + letters * ('a' - 10 - '0');
-}
+INLINE u32 hex4(u32 mask) { return load2(pairs + 2 * (mask >> 8)) | load2(pairs + 2 * (mask & 0xff)) << 16; }
 
-/* The first five fields and the byte after them, 16 bytes. */
-INLINE void put_five(u8 *at, const struct cycle *c, u8 last) {
-    store4(at, hex4(c->hbusreq));
+/* The first five fields and the byte after them, 16 bytes; the masks are numbers. */
+INLINE void put_five(u8 *at, u32 hbusreq, u32 hlock, u32 hready, u32 htrans, u32 hburst, u8 last) {
+    store8(at + 8, 0x0030093009300900ul | (u64)last << 56 | hready << 16 | (u64)htrans << 32 | (u64)hburst << 48);
+    store4(at, hex4(hbusreq));
     at[4] = '\t';
-    store4(at + 5, hex4(c->hlock));
-    at[9] = '\t';
-    store4(at + 10, 0x09300930 | c->hready | c->htrans << 16);
-    at[14] = (u8)('0' + c->hburst);
-    at[15] = last;
+    store4(at + 5, hex4(hlock));
 }
 
-/* The last six fields, 16 bytes from the tab before HGRANT, which has the single bit g. */
-INLINE void put_six(u8 *at, u32 g, const struct cycle *c) {
-    u64 grant = (u64)(1u << (g & 3)) << (32 - 8 * (g >> 2));
-    u64 owner = c->hmaster + (c->hmaster > 9 ? 'a' - 10 : '0');
-    u64 flags = c->hmastlock | c->decide << 16 | (u64)c->granted << 32 | (u64)c->busreq << 48;
-    store8(at, 0x0900093030303009ul | grant | owner << 48);
-    store8(at + 8, 0x0a30093009300930ul | flags);
+/* X of each master */
+#define MASTERS(X) \
+    X(0), X(1), X(2), X(3), X(4), X(5), X(6), X(7), X(8), X(9), X(10), X(11), X(12), X(13), X(14), X(15)
+
+/* a master as HGRANT, after a tab, and as HMASTER, between tabs: two parts of one word */
+#define GRANT(i) (0x0000003030303009ul | 1ul << (32 - (i) / 4 * 8 + (i) % 4))
+#define OWNER(i) (0x0900090000000000ul | ((i) + ((i) > 9 ? 'a' - 10ul : '0')) << 48)
+
+/* The last six fields, 16 bytes from the tab before them. */
+INLINE void put_six(u8 *at, u64 grant, u64 owner, u64 flags) {
+    store8(at, grant | owner);
+    store8(at + 8, flags);
 }
 
 #endif

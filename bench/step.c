@@ -4,26 +4,40 @@
 #include "put.h"
 #include "step.h"
 
-/* Whether eight bytes and a count are those of a well-formed state. */
-INLINE u32 well_formed(const u8 *s, u32 count) {
-    u32 n = s[0], g = s[1], m = s[2], hmastlock = s[3], granted = s[4], phase = s[5], k = s[6];
-    u32 in_range = (n - 2 < 15) & (g < n) & (m < n) & (hmastlock < 2) & (granted < 2) & (s[7] == 0) & (count <= LIMIT);
-    u32 fixed = (phase == 1) & (k - 1 < 3) & !granted;
-    u32 open = (phase == 2) & (k == 0) & !granted & hmastlock;
-    u32 other = ((phase == 0) | (phase == 3)) & (k == 0);
-    return in_range & (fixed | open | other) & (granted | (g == m));
+/* the bits that the first eight bytes may have */
+#define STATE_BITS 0x00030301010f0f1ful
+
+/* HMASTLOCK, GRANTED, the phase, k, and whether g is m, as one number below 128 */
+#define HELD(hmastlock, granted, phase, k, own) ((hmastlock) | (granted) << 1 | (phase) << 2 | (k) << 4 | (own) << 6)
+
+/* With bits 24, 32, 40, 41, 48 and 49 side by side. */
+INLINE u64 held(u64 bytes, u64 own) {
+    return bytes * (1ul << 34 | 1ul << 27 | 1ul << 20 | 1ul << 14) >> 58 | own << 6;
 }
 
-INLINE struct arbiter unpack(const u8 *s) {
-    u32 phase = s[5] == 0 ? FRESH : s[5] == 1 ? s[6] : s[5] == 2 ? OPEN : DONE;
-    return (struct arbiter){s[1], s[2], s[3], s[4], phase};
-}
+/* The phases of well-formed states by these numbers, with the lowest bit high; all else is 0. */
+#define IS(phase) ((phase) << 1 | 1)
+#define FREE(phase, k, is) [HELD(0, 0, phase, k, 1)] = IS(is), [HELD(1, 0, phase, k, 1)] = IS(is)
+#define TAKEN(phase, own, is) [HELD(0, 1, phase, 0, own)] = IS(is), [HELD(1, 1, phase, 0, own)] = IS(is)
+static const u8 phases[128] = {
+    FREE(0, 0, FRESH), TAKEN(0, 0, FRESH), TAKEN(0, 1, FRESH), FREE(1, 1, FIXED + 1), FREE(1, 2, FIXED + 2),
+    FREE(1, 3, FIXED + 3), [HELD(1, 0, 2, 0, 1)] = IS(OPEN), FREE(3, 0, DONE), TAKEN(3, 0, DONE), TAKEN(3, 1, DONE)};
 
-INLINE void pack(u8 *s, u32 n, const struct arbiter *a, u32 count) {
-    u32 fixed = a->phase - 1 < 3;
-    u64 phase = fixed ? 1 : a->phase == FRESH ? 0 : a->phase == OPEN ? 2 : 3, k = fixed ? a->phase : 0;
-    store8(s, n | a->g << 8 | a->m << 16 | a->hmastlock << 24 | (u64)a->granted << 32 | phase << 40 | k << 48);
-    store4(s + 8, count);
+/* a phase and its k in two bytes */
+static const u16 phase_bytes[] = {
+    [FRESH] = 0, [FIXED + 1] = 0x0101, [FIXED + 2] = 0x0201, [FIXED + 3] = 0x0301, [OPEN] = 2, [DONE] = 3};
+
+/* the masters that are there, by n */
+#define THERE(n) [n] = (1u << (n)) - 1
+static const u32 masters[32] = {THERE(2),  THERE(3),  THERE(4),  THERE(5),  THERE(6),  THERE(7),  THERE(8), THERE(9),
+                                THERE(10), THERE(11), THERE(12), THERE(13), THERE(14), THERE(15), THERE(16)};
+
+static const u64 grants[] = {MASTERS(GRANT)}, owners[] = {MASTERS(OWNER)};
+
+INLINE void pack(u8 *state, u32 n, const struct arbiter *a, u32 count) {
+    u64 flags = (a->flags & HMASTLOCK) << 24 | (a->flags & GRANTED);
+    store8(state, n | a->g << 8 | a->m << 16 | flags | (u64)phase_bytes[a->phase] << 40);
+    store4(state + 8, count);
 }
 
 u32 plain_reset(u32 n, u8 *state, u64 state_len) {
@@ -33,21 +47,40 @@ u32 plain_reset(u32 n, u8 *state, u64 state_len) {
     return 0;
 }
 
+/* Whether the inputs are good. */
+INLINE u32 good(u32 masks, u32 there, u32 hready, u32 htrans, u32 hburst) {
+    if (masks & ~there) return 0;
+    if (hready > 1) return 0;
+    if ((htrans | hburst) > 3) return 0;
+    return !(NOT_BUILT >> CODES(hready, htrans, hburst) & 1);
+}
+
+/* The first test that they fail, if they are not. */
+APART u32 refusal_of(u32 masks, u32 hready, u32 htrans, u32 hburst) {
+    if (masks > 0xffff || hready > 1 || htrans > 3 || hburst > 7) return 4;
+    return not_built(htrans, hburst) ? 5 : 6;
+}
+
 u32 plain_step(u32 hbusreq, u32 hlock, u32 hready, u32 htrans, u32 hburst, u8 *state, u64 state_len, u8 *line,
                u64 line_len) {
     if (RARELY(state_len < STATE_BYTES || line_len < LINE_BYTES)) return 9;
-    u32 n = state[0], count = load4(state + 8);
-    if (RARELY(!well_formed(state, count))) return 10;
-    if (RARELY(count == LIMIT)) return 8;
-    if (RARELY((hbusreq | hlock) > 0xffff || hready > 1 || htrans > 3 || hburst > 7)) return 4;
-    if (RARELY(not_built(htrans, hburst))) return 5;
-    if (RARELY((hbusreq | hlock) >> n)) return 6;
-    struct arbiter a = unpack(state);
-    struct cycle c = {hbusreq, hlock, hready, htrans, hburst, 0, 0, 0, 0, 0, 0};
-    u32 g = a.g;
-    arbitrate(&a, &c);
-    put_five(line, &c, '\t');
-    put_six(line + 15, g, &c);
+    u64 bytes = load8(state), g = bytes >> 8 & 15, m = bytes >> 16 & 15;
+    u32 n = bytes & 31, there = masters[n], phase = phases[held(bytes, g == m)], count = load4(state + 8);
+    if (RARELY(bytes & ~STATE_BITS)) return 10;
+    if (RARELY(!(phase & there >> g & there >> m & 1))) return 10;
+    if (RARELY(count >= LIMIT)) return count == LIMIT ? 8 : 10;
+    u32 masks = hbusreq | hlock;
+    if (RARELY(!good(masks, there, hready, htrans, hburst))) return refusal_of(masks, hready, htrans, hburst);
+    struct arbiter a = {ALL_LOW | (bytes >> 24 & 1) | (bytes & GRANTED), g, m, phase >> 1};
+    struct inputs c = {hbusreq, hlock, CODES(hready, htrans, hburst)};
+    put_five(line, hbusreq, hlock, hready, htrans, hburst, '\t');
+    put_six(line + 15, grants[g], owners[m], arbitrate(&a, &c));
     pack(state, n, &a, count + 1);
     return 0;
+}
+
+u32 no_step(u32 hbusreq, u32 hlock, u32 hready, u32 htrans, u32 hburst, u8 *state, u64 state_len, u8 *line,
+            u64 line_len) {
+    (void)hbusreq, (void)hlock, (void)hready, (void)htrans, (void)hburst, (void)state, (void)state_len, (void)line;
+    return line_len < LINE_BYTES;
 }

@@ -1,4 +1,5 @@
-/* The host's two calls: the product's and the plain ones, with the same meaning. */
+/* The host's two calls: the product's and the plain ones, with the same meaning, and a step that does
+   nothing, to know what calling costs. */
 #ifndef STEP_H
 #define STEP_H
 
@@ -11,6 +12,6 @@ typedef u32 step_call(u32 hbusreq, u32 hlock, u32 hready, u32 htrans, u32 hburst
                       u64 line_len);
 
 extern reset_call plain_reset, espigambre_reset;
-extern step_call plain_step, espigambre_step;
+extern step_call plain_step, espigambre_step, no_step;
 
 #endif

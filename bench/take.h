@@ -1,83 +1,99 @@
-/* Stimulus lines and trace lines, read by whole words. A line's tests are 3 (separators), 4
-   (characters), 5 (codes that are not built), 6 (masters that are not there) and 7 (HMASTER). */
+/* Stimulus lines and trace lines, read by whole words. A mask stays four digits, each in its byte, the last one
+   lowest, and a master is a place in it, from 0 to 27. */
 #ifndef TAKE_H
 #define TAKE_H
 
 #include "lines.h"
 
-/* The first test that found something. */
-INLINE u32 first_of(u64 bad3, u64 bad4, u64 bad5, u64 bad6, u64 bad7) {
-    return bad3 ? 3 : bad4 ? 4 : bad5 ? 5 : bad6 ? 6 : bad7 ? 7 : 0;
+/* the place of a master, and the places of the masters from n on, in two masks */
+#define PLACE(i) ((i) + ((i) & 12))
+static inline u64 absent_masters(u32 n) {
+    u64 there = 0;
+    for (u32 i = 0; i < n; i++) there |= 0x0000000100000001ul << PLACE(i);
+    return ~there & EACH(0x0f);
 }
 
-/* The places of eight characters that are not lower-case hex digits. Below 128 no sum carries; from
-   128 on the character itself is marked. */
-INLINE u64 not_hex(u64 text) {
-    u64 digit = (text + EACH(0x80 - '0')) & ~(text + EACH(0x80 - ':'));
-    u64 letter = (text + EACH(0x80 - 'a')) & ~(text + EACH(0x80 - 'g'));
-    return (~(digit | letter) | text) & EACH(0x80);
+/* A line's shape: its separators, and the largest digit of each other place. */
+static const char stimulus[] = "ffff\tffff\t1\t3\t7\n", trace[] = "ffff\tffff\t1\t3\t7\tffff\tf\t1\t1\t1\t1\n";
+
+/* A hex digit, or 16. */
+static inline u32 digit(u8 sign) {
+    return sign >= '0' && sign <= '9' ? sign - '0' : sign >= 'a' && sign <= 'f' ? sign - 'a' + 10u : 16;
 }
 
-/* The values of eight hex digits, each in its place. */
-INLINE u64 hex_values(u64 text) { return (text & EACH(0x0f)) + 9 * (text >> 6 & EACH(0x01)); }
-
-/* The numbers of two groups of four hex digits, in the low halves of the word's two halves. */
-INLINE u64 two_masks(u64 text) {
-    u64 values = hex_values(text);
-    u64 pairs = (values << 4 | values >> 8) & 0x00ff00ff00ff00fful;
-    return (pairs << 8 | pairs >> 16) & 0x0000ffff0000fffful;
+/* Four hex digits as a number. */
+static inline u32 mask(const u8 *at) {
+    return digit(at[0]) << 12 | digit(at[1]) << 8 | digit(at[2]) << 4 | digit(at[3]);
 }
 
-/* The first five fields and the byte after them; `masters` joins the masks. */
-struct five {
-    u64 bad3, bad4, bad5;
-    u32 masters;
+/* The first test that a line fails: 3 (separators), 4 (characters), 5 (codes that are not built), 6 (masters that
+   are not there), 7 (HMASTER). A line that fails none comes after the last cycle of a run: 8. */
+APART u32 refusal_of(const u8 *line, const char *shape, u32 n) {
+    for (u32 i = 0; shape[i]; i++)
+        if (shape[i] < '0' && line[i] != shape[i]) return 3;
+    for (u32 i = 0; shape[i]; i++)
+        if (shape[i] >= '0' && digit(line[i]) > digit((u8)shape[i])) return 4;
+    if (not_built(digit(line[12]), digit(line[14]))) return 5;
+    if ((mask(line) | mask(line + 5)) >> n) return 6;
+    if (shape == stimulus) return 8;
+    return mask(line + 16) >> n ? 6 : digit(line[21]) >= n ? 7 : 8;
+}
+
+/* Eight hex digits by their values; `bad` is not 0 if a character is none. */
+struct digits {
+    u64 values, bad;
 };
 
-INLINE struct five take_five(const u8 *line, u8 last, struct cycle *c) {
-    struct five seen;
-    u64 head = load8(line), tail = load8(line + 8);
-    u64 masks = (u64)load4(line + 5) << 32 | load4(line);
-    u64 tabs = (u64)last << 56 | 0x0000090009000900ul;
-    seen.bad3 = ((head ^ 0x0000000900000000ul) & 0x000000ff00000000ul) | ((tail ^ tabs) & 0xff00ff00ff00ff00ul);
-    seen.bad4 = not_hex(masks) | ((tail & 0x00f800fc00fe0000ul) ^ 0x0030003000300000ul);
-    u64 two = two_masks(masks);
-    c->hbusreq = (u32)two;
-    c->hlock = (u32)(two >> 32);
-    c->hready = tail >> 16 & 1;
-    c->htrans = tail >> 32 & 3;
-    c->hburst = tail >> 48 & 7;
-    seen.bad5 = not_built(c->htrans, c->hburst);
-    seen.masters = c->hbusreq | c->hlock;
-    return seen;
+/* A letter is 0x51 to 0x56 before it becomes 10 to 15. What carries comes from a place that is bad already. */
+INLINE struct digits hex_digits(u64 text) {
+    u64 signs = text ^ EACH('0'), letters = signs >> 6 & EACH(1);
+    u64 values = signs - 0x47 * letters, small = values + EACH(6) - 16 * letters;
+    return (struct digits){values, (values | small) & EACH(0xf0)};
 }
 
-/* Reads 16 bytes; answers 0 or a refusal. */
-INLINE u32 take_stimulus(const u8 *line, u32 n, struct cycle *c) {
-    struct five seen = take_five(line, '\n', c);
-    u64 bad6 = seen.masters >> n;
-    if (RARELY(seen.bad3 | seen.bad4 | seen.bad5 | bad6)) return first_of(seen.bad3, seen.bad4, seen.bad5, bad6, 0);
-    return 0;
+/* Reads the first five fields and the byte after them; answers 0 if they are good. */
+INLINE u64 take_inputs(const u8 *line, u8 last, u64 absent, struct inputs *c) {
+    u64 tab = line[4] ^ '\t', masks = __builtin_bswap64((u64)load4(line + 5) << 32 | load4(line));
+    u64 codes = load8(line + 8) ^ (0x0030093009300900ul | (u64)last << 56);
+    struct digits eight = hex_digits(masks);
+    c->hbusreq = (u32)(eight.values >> 32);
+    c->hlock = (u32)eight.values;
+    /* bits 16, 32, 33, 48 and 49 side by side */
+    c->codes = (u32)(codes * (1ul << 43 | 1ul << 28 | 1ul << 14) >> 59);
+    return tab | eight.bad | (eight.values & absent) | (codes & 0xfffcfffcfffeff00ul) | (NOT_BUILT >> c->codes & 1);
 }
 
-/* Reads 31 bytes; answers 0 or a refusal. */
-INLINE u32 take_trace(const u8 *line, u32 n, struct cycle *c) {
-    struct five seen = take_five(line, '\t', c);
-    u64 owner = load8(line + 16), flags = load8(line + 23);
-    /* the five digits of HGRANT and HMASTER, with 0 in the other places */
-    u64 digits = (owner & 0x0000ff00fffffffful) | 0x3030003000000000ul;
-    u64 bad3 = seen.bad3 | ((owner ^ 0x0009000900000000ul) & 0x00ff00ff00000000ul) |
-               ((flags ^ 0x0a00090009000900ul) & 0xff00ff00ff00ff00ul);
-    u64 bad4 = seen.bad4 | not_hex(digits) | ((flags & 0x00fe00fe00fe00feul) ^ 0x0030003000300030ul);
-    c->hgrant = (u32)two_masks(digits);
-    c->hmaster = (u32)(hex_values(digits) >> 40 & 15);
-    c->hmastlock = flags & 1;
-    c->decide = flags >> 16 & 1;
-    c->granted = flags >> 32 & 1;
-    c->busreq = flags >> 48 & 1;
-    u64 bad6 = (seen.masters | c->hgrant) >> n, bad7 = c->hmaster >= n;
-    if (RARELY(bad3 | bad4 | seen.bad5 | bad6 | bad7)) return first_of(bad3, bad4, seen.bad5, bad6, bad7);
-    return 0;
+/* codes and flags as one number */
+enum { READY = 1, TRANS = 3 << 1, BURST = 3 << 3, LOCKED = 1 << 5, DECIDES = 1 << 6, GRANTS = 1 << 7, ASKS = 1 << 8 };
+
+/* A cycle of a trace: `seats` is the text from HGRANT to HMASTLOCK, `hmaster` a place. */
+struct cycle {
+    struct inputs in;
+    u64 seats;
+    u32 hgrant, hmaster, now;
+};
+
+/* Reads HGRANT and HMASTER out of the seats; answers 0 if they are good. */
+INLINE u64 take_seats(u64 absent, u32 n, struct cycle *c) {
+    /* their five digits, and 0 in the other places */
+    struct digits eight = hex_digits(__builtin_bswap64((c->seats & 0x0000ff00fffffffful) | 0x3030003000000000ul));
+    u64 tabs = (c->seats ^ 0x0009000900000000ul) & 0x00ff00ff00000000ul;
+    u32 number = (u32)eight.values >> 16;
+    c->hgrant = (u32)(eight.values >> 32);
+    c->hmaster = PLACE(number);
+    return tabs | eight.bad | (c->hgrant & (u32)absent) | (number >= n);
+}
+
+/* Reads 31 bytes; answers 0 if they are good. Seats as at p are not read again. */
+INLINE u64 take_trace(const u8 *line, u64 absent, u32 n, const struct cycle *p, struct cycle *c) {
+    u64 flags = load8(line + 23) ^ ALL_LOW, bad = take_inputs(line, '\t', absent, &c->in);
+    /* bits 0, 16, 32 and 48 side by side */
+    c->now = c->in.codes | (u32)(flags * (1ul << 60 | 1ul << 45 | 1ul << 30 | 1ul << 15) >> 60) << 5;
+    c->seats = load8(line + 16);
+    c->hgrant = p->hgrant;
+    c->hmaster = p->hmaster;
+    if (c->seats != p->seats) bad |= take_seats(absent, n, c);
+    return bad | (flags & 0xfffefffefffefffeul);
 }
 
 #endif

@@ -10,6 +10,24 @@ static inline void put_text(struct output *out, const char *text) {
     fit(out, at);
 }
 
+/* the ten pairs of digits that begin with d */
+#define TEN(d) d "0" d "1" d "2" d "3" d "4" d "5" d "6" d "7" d "8" d "9"
+
+static const u8 hundred[] = TEN("0") TEN("1") TEN("2") TEN("3") TEN("4") TEN("5") TEN("6") TEN("7") TEN("8") TEN("9");
+
+struct decimal {
+    u64 text, length;
+};
+
+/* A number below 1,000,000 without leading zeros. */
+INLINE struct decimal decimal(u32 number) {
+    u32 high = number / 10000, low = number % 10000;
+    u64 middle = load2(hundred + 2 * (low / 100)), last = load2(hundred + 2 * (low % 100));
+    u64 six = load2(hundred + 2 * high) | middle << 16 | last << 32;
+    u32 zeros = (u32)__builtin_ctzl((six & EACH(0x0f)) | 1ul << 40) / 8;
+    return (struct decimal){six >> 8 * zeros, 6 - zeros};
+}
+
 static inline void put_decimal(struct output *out, u32 number) {
     u8 *at = room(out, 16);
     u32 ten = 1;

@@ -19,11 +19,16 @@ static u32 below(u32 limit) {
     return (u32)((seed >> 32) * limit >> 32);
 }
 
-/* The bus as its masters see it. */
+/* The inputs of a cycle. */
+struct cycle {
+    u32 hbusreq, hlock, hready, htrans, hburst;
+};
+
+/* The bus as its masters see it: the last cycle, whether it was a handover, and the arbiter after it. */
 struct bus {
     struct arbiter arbiter;
     struct cycle last;
-    u32 n, beats, waits;
+    u32 handover, n, beats, waits;
 };
 
 /* Masters at rest begin to ask, some with a lock. */
@@ -66,14 +71,20 @@ static void slip(struct cycle *c) {
 /* The inputs of the next cycle. */
 static struct cycle next(struct bus *b) {
     struct cycle c = b->last;
-    u32 handover = c.granted & c.hready;
-    if (!handover && c.hready) go_on(b, &c);
+    if (!b->handover && c.hready) go_on(b, &c);
     ask(b, &c);
-    if (handover) start(b, &c);
+    if (b->handover) start(b, &c);
     if (!below(4000)) slip(&c);
     c.hready = b->waits == LONGEST_WAIT || below(5) != 0;
     b->waits = c.hready ? 0 : b->waits + 1;
     return c;
+}
+
+/* The arbiter over a cycle. */
+static void answer(struct bus *b, const struct cycle *c) {
+    struct inputs in = {c->hbusreq, c->hlock, CODES(c->hready, c->htrans, c->hburst)};
+    b->handover = arbitrate(&b->arbiter, &in) & GRANTED && c->hready;
+    b->last = *c;
 }
 
 static u32 number(const char *text) {
@@ -84,7 +95,7 @@ static u32 number(const char *text) {
 
 int main(int words, char **word) {
     if (words != 4) return 2;
-    struct bus b = {RESET, {0}, number(word[1]), 0, 0};
+    struct bus b = {RESET, {0}, 0, number(word[1]), 0, 0};
     u32 cycles = number(word[2]);
     if (b.n < 2 || b.n > 16) return 2;
     seed = (EACH(0x9e) ^ number(word[3]) * 0x2545f4914f6cdd1dul) | 1;
@@ -93,10 +104,9 @@ int main(int words, char **word) {
     put_text(&out, "\n");
     for (u32 t = 0; t < cycles; t++) {
         struct cycle c = t ? next(&b) : b.last;
-        put_five(room(&out, STIM_LINE), &c, '\n');
+        put_five(room(&out, STIM_LINE), c.hbusreq, c.hlock, c.hready, c.htrans, c.hburst, '\n');
         out.end += STIM_LINE;
-        arbitrate(&b.arbiter, &c);
-        b.last = c;
+        answer(&b, &c);
     }
     flush(&out);
     return 0;
