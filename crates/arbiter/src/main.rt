@@ -3,12 +3,13 @@ use console::Fed;
 use rules::State;
 use streaming::ArbiterHead;
 ghost use mathlib.Core.Path.{_≡_};
-ghost use mathlib.Core.Bool.{true};
+ghost use mathlib.Core.Bool.{true, false};
 ghost use Prim.Native.Nat.{_≤_};
 ghost use lib.ListN.{length};
+ghost use Rattle.rules.specs.State.{wellFormed};
 ghost use Rattle.streams.specs.declared.Flow.the-variants.{GoesOn};
-ghost use Rattle.streams.specs.Blocks.{arbiterBlockOf};
-ghost use Rattle.console.specs.Fed.{Nearer};
+ghost use Rattle.streams.specs.Blocks.{arbiterRoom, asArbiter, arbiterStretch};
+ghost use Rattle.console.specs.Going.{Nearer, Lent};
 
 // After a block: whether the program goes on, and its state.
 struct After {
@@ -17,9 +18,10 @@ struct After {
 }
 
 // A block that was read: its lines are taken, and what they come to is written.
-fn take(s: State, block: &[u8], more: bool, out: &mut [u8]) -> After
-    ensures { λ r. ⌜ (r .on ≡ true → (more ≡ true) × (arbiterBlockOf s (now (block .entry)) (length (now (out .entry))) .flow ≡ GoesOn)) ⌝ }
-    ensures { λ r. ⌜ r .state ≡ arbiterBlockOf s (now (block .entry)) (length (now (out .entry))) .state ⌝ }
+fn take(s: State, block: &[u8], out: &mut [u8]) -> After
+    requires { ⌜ (wellFormed s ≡ true) × (arbiterRoom (now block) ≤ length (now out)) ⌝ }
+    ensures { λ r. ⌜ (r .on ≡ true → asArbiter (arbiterStretch s (now (block .entry))) .flow ≡ GoesOn) ⌝ }
+    ensures { λ r. ⌜ r .state ≡ asArbiter (arbiterStretch s (now (block .entry))) .state ⌝ }
 {
     let a = streaming::arbiter_block(s, block, out);
     let given = console::give(a.written, out);
@@ -27,32 +29,47 @@ fn take(s: State, block: &[u8], more: bool, out: &mut [u8]) -> After
     let goes = console::goes_on(flow);
     let state = a.state;
     After {
-        on: given & goes & more,
+        on: given & goes,
         state,
     }
 }
 
-// One block. A short one is the last, and one that cannot be read is empty.
-fn turn(s: State, block: &mut [u8], out: &mut [u8]) -> After
-    requires { ⌜ 1 ≤ length (now block) ⌝ }
-    ensures { λ r. ⌜ Nearer (r .on) (s .count) (r .state .count) ⌝ }
+// The last block.
+fn take_last(s: State, block: &[u8], out: &mut [u8]) -> After
+    requires { ⌜ (wellFormed s ≡ true) × (arbiterRoom (now block) ≤ length (now out)) ⌝ }
+    ensures { λ r. ⌜ r .on ≡ false ⌝ }
 {
-    let fed = console::read_block(block);
-    let n = console::size(fed);
-    let more = console::more(fed);
-    take(s, console::first(n, block), more, out)
+    let t = take(s, block, out);
+    let state = t.state;
+    After { on: false, state }
 }
 
-// Block after block, and no bound on their number: each that is not the last brings the count nearer to 1,000,000, and the line after that stops the
-// program.
-fn run(start: State, block: &mut [u8], out: &mut [u8])
-    requires { ⌜ 1 ≤ length (now block) ⌝ }
+// One block. A short one is the last.
+fn turn(s: State, block: &mut [u8], out: &mut [u8]) -> After
+    requires { ⌜ (wellFormed s ≡ true) × Lent 16 31 (length (now block)) (length (now out)) ⌝ }
+    ensures { λ r. ⌜ (r .on ≡ true → Nearer (s .count) (r .state .count) × (wellFormed (r .state) ≡ true)) ⌝ }
+{
+    match console::read_block(block) {
+        Fed::More(n) => take(s, console::first(n, block), out),
+        Fed::Last(n) => take_last(s, console::first(n, block), out),
+        Fed::Broken => After {
+            on: false,
+            state: s,
+        },
+    }
+}
+
+// Block after block, with no bound on their number: each one that goes on brings the count nearer to 1,000,000, and the line after that stops the
+// program. It ends only after a block that does not go on.
+fn run(start: State, block: &mut [u8], out: &mut [u8]) -> After
+    requires { ⌜ (wellFormed start ≡ true) × Lent 16 31 (length (now block)) (length (now out)) ⌝ }
+    ensures { λ r. ⌜ r .on ≡ false ⌝ }
 {
     let mut state = start;
     loop {
         let t = turn(state, block, out);
         if !t.on {
-            return;
+            return t;
         }
         let next = t.state;
         state = next;
@@ -61,7 +78,7 @@ fn run(start: State, block: &mut [u8], out: &mut [u8])
 
 // The header, and the blocks after one that is accepted.
 fn start(n: usize, block: &mut [u8], out: &mut [u8])
-    requires { ⌜ 1 ≤ length (now block) ⌝ }
+    requires { ⌜ Lent 16 31 (length (now block)) (length (now out)) ⌝ }
 {
     match streaming::arbiter_head(console::first(n, block), out) {
         ArbiterHead::Begun(w, s) => {
@@ -76,6 +93,7 @@ fn start(n: usize, block: &mut [u8], out: &mut [u8])
     }
 }
 
+// 2,048 lines a block, and room for a trace line for each and for one line more.
 fn main() {
     let mut block = [0u8; 32768];
     let mut out = [0u8; 63519];

@@ -1,2 +1,3 @@
--- What a read came to, whether a program goes on after a block, and that it ends.
+-- What a read came to, and how a program goes from block to block.
 pub mod Fed
+pub mod Going

@@ -1,11 +1,12 @@
-// Standard input in whole lines, and standard output. No contract can say what is read or written there; the functions that only sort
-// an answer have one.
+// Standard input in whole lines, and standard output. No contract can say which bytes are read or written there; the contracts say how many a
+// block has, and what the functions that only sort an answer return.
 use libc::STDIN_FILENO;
 use libc::STDOUT_FILENO;
 use streams::Flow;
 ghost use mathlib.Core.Path.{_≡_};
 ghost use lib.ListN.{take, length};
-ghost use Rattle.console.specs.Fed.{sizeOf, moreAfter, Ended, Filled, goesOnAfter};
+ghost use Rattle.console.specs.Fed.{Ended, Filled};
+ghost use Rattle.console.specs.Going.{goesOnAfter};
 
 // What a read came to: so many bytes and more may come, the last bytes of the input, or an error.
 pub enum Fed {
@@ -21,28 +22,6 @@ fn ended(n: usize) -> Fed
     let mut one = [0u8; 1];
     let got = libc::read(STDIN_FILENO, &mut one);
     if got == 0 { Fed::Last(n) } else { Fed::Broken }
-}
-
-// The bytes that were read.
-pub fn size(f: Fed) -> usize
-    ensures { λ r. ⌜ r ≡ sizeOf f ⌝ }
-{
-    match f {
-        Fed::More(n) => n,
-        Fed::Last(n) => n,
-        Fed::Broken => 0,
-    }
-}
-
-// Whether more may come.
-pub fn more(f: Fed) -> bool
-    ensures { λ r. ⌜ r ≡ moreAfter f ⌝ }
-{
-    match f {
-        Fed::More(_) => true,
-        Fed::Last(_) => false,
-        Fed::Broken => false,
-    }
 }
 
 // Fills the buffer, so that a buffer of whole lines splits no line.

@@ -8,8 +8,8 @@ ghost use mathlib.Core.Bool.{true, false};
 ghost use Prim.Native.Nat.{_≤_};
 ghost use lib.ListN.{length};
 ghost use Rattle.streams.specs.declared.Flow.the-variants.{GoesOn};
-ghost use Rattle.streams.specs.Blocks.{judgeBlockOf};
-ghost use Rattle.console.specs.Fed.{Nearer};
+ghost use Rattle.streams.specs.Blocks.{tallyFormed, judgeRoom, asJudge, judgeStretch};
+ghost use Rattle.console.specs.Going.{Nearer, Lent};
 
 // After a block: whether the program goes on, and what it keeps.
 struct After {
@@ -44,8 +44,9 @@ fn give(a: JudgeStretch, out: &[u8]) -> After
 
 // A block that was read: its lines are taken, and what they come to is written.
 fn take(b: Tally, block: &[u8], out: &mut [u8]) -> After
-    ensures { λ r. ⌜ (r .on ≡ true → judgeBlockOf b (now (block .entry)) (length (now (out .entry))) .flow ≡ GoesOn) ⌝ }
-    ensures { λ r. ⌜ r .tally ≡ judgeBlockOf b (now (block .entry)) (length (now (out .entry))) .tally ⌝ }
+    requires { ⌜ (tallyFormed b ≡ true) × (judgeRoom (now block) ≤ length (now out)) ⌝ }
+    ensures { λ r. ⌜ (r .on ≡ true → asJudge (judgeStretch b (now (block .entry))) .flow ≡ GoesOn) ⌝ }
+    ensures { λ r. ⌜ r .tally ≡ asJudge (judgeStretch b (now (block .entry))) .tally ⌝ }
 {
     let a = streaming::judge_block(b, block, out);
     give(a, out)
@@ -53,6 +54,7 @@ fn take(b: Tally, block: &[u8], out: &mut [u8]) -> After
 
 // The last block, and the end line after it.
 fn take_last(b: Tally, block: &[u8], out: &mut [u8]) -> After
+    requires { ⌜ (tallyFormed b ≡ true) × (judgeRoom (now block) ≤ length (now out)) ⌝ }
     ensures { λ r. ⌜ r .on ≡ false ⌝ }
 {
     let t = take(b, block, out);
@@ -65,8 +67,8 @@ fn take_last(b: Tally, block: &[u8], out: &mut [u8]) -> After
 
 // One block. A short one is the last.
 fn turn(b: Tally, block: &mut [u8], out: &mut [u8]) -> After
-    requires { ⌜ 1 ≤ length (now block) ⌝ }
-    ensures { λ r. ⌜ Nearer (r .on) (b .judge .count) (r .tally .judge .count) ⌝ }
+    requires { ⌜ (tallyFormed b ≡ true) × Lent 31 315 (length (now block)) (length (now out)) ⌝ }
+    ensures { λ r. ⌜ (r .on ≡ true → Nearer (b .judge .count) (r .tally .judge .count) × (tallyFormed (r .tally) ≡ true)) ⌝ }
 {
     match console::read_block(block) {
         Fed::More(n) => take(b, console::first(n, block), out),
@@ -78,16 +80,17 @@ fn turn(b: Tally, block: &mut [u8], out: &mut [u8]) -> After
     }
 }
 
-// Block after block, and no bound on their number: each that is not the last brings the count nearer to 1,000,000, and the line after that stops the
-// program.
-fn run(start: Tally, block: &mut [u8], out: &mut [u8])
-    requires { ⌜ 1 ≤ length (now block) ⌝ }
+// Block after block, with no bound on their number: each one that goes on brings the count nearer to 1,000,000, and the line after that stops the
+// program. It ends only after a block that does not go on.
+fn run(start: Tally, block: &mut [u8], out: &mut [u8]) -> After
+    requires { ⌜ (tallyFormed start ≡ true) × Lent 31 315 (length (now block)) (length (now out)) ⌝ }
+    ensures { λ r. ⌜ r .on ≡ false ⌝ }
 {
     let mut tally = start;
     loop {
         let t = turn(tally, block, out);
         if !t.on {
-            return;
+            return t;
         }
         let next = t.tally;
         tally = next;
@@ -96,7 +99,7 @@ fn run(start: Tally, block: &mut [u8], out: &mut [u8])
 
 // The header, and the blocks after one that is accepted.
 fn start(n: usize, block: &mut [u8], out: &mut [u8])
-    requires { ⌜ 1 ≤ length (now block) ⌝ }
+    requires { ⌜ Lent 31 315 (length (now block)) (length (now out)) ⌝ }
 {
     let a = streaming::judge_head(console::first(n, block), out);
     let t = give(a, out);
@@ -106,6 +109,7 @@ fn start(n: usize, block: &mut [u8], out: &mut [u8])
     }
 }
 
+// 1,024 lines a block, and room for the breaches of each and of one line more.
 fn main() {
     let mut block = [0u8; 31744];
     let mut out = [0u8; 322875];

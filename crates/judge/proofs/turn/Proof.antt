@@ -1,54 +1,40 @@
 -- `turn` meets its contract: a block that goes on was full, and its lines were counted.
-use Prim.Native.Nat.{ℕ, _≤_}
-use mathlib.Core.Path.{_≡_, refl}
-use mathlib.Core.Bool.{Bool, true, false}
-use mathlib.Core.List.{List}
+use mathlib.Core.Path.{refl}
 use native.Mathlib.Omega.{arith}
 use borrow.Author.Needs.{needs}
-use lib.ListN.{length, take}
-use Rattle.streams.specs.declared.Tally.{Tally}
-use Rattle.streams.specs.declared.Flow.the-variants.{GoesOn}
-use Rattle.streams.specs.Blocks.{judgeBlockOf}
-use Rattle.streams.proofs.Enough.{blocks-are-counted}
-use Rattle.console.specs.declared.Fed.{Fed}
-use Rattle.console.specs.declared.Fed.the-variants.{More}
-use Rattle.console.specs.Fed.{Filled, Nearer}
-use Rattle.console.proofs.Onwards.{some}
+use Rattle.console.proofs.Onwards.{never}
+use Rattle.judge.proofs.Blocks.{roomy, nearer}
 use Rattle.judge.proofs.turn.Statement.{statement}
 use Rattle.judge.proofs.turn.Tie as tie
 
-nearer : (b t : Tally) (f : Fed) (n room : ℕ) (on : Bool) (buffer part : List ℕ) → Filled f (length buffer) → f ≡ More n
-    → part ≡ take n buffer
-    → (on ≡ true → judgeBlockOf b part room .flow ≡ GoesOn) × (t ≡ judgeBlockOf b part room .tally)
-    → 1 ≤ length buffer → Nearer on (b .judge .count) (t .judge .count)
-nearer b t f n room on buffer part filled more is e h goes =
-    let k = blocks-are-counted .judge-block b part room (e .0 goes) in
-    let l : 1 ≤ length part = rw is (some (More n) buffer (rw more at filled) refl h) in
-    rw (e .1) (omega (arith, k .0), k .1)
-
-never : (on : Bool) (k l : ℕ) → on ≡ false → Nearer on k l
-never on k l e goes = let z : _≡_ {A = ℕ} 0 1 = cc in absurd (omega arith)
-
 read-block-requires : tie.Need-read-block-requires
-read-block-requires c κs = search needs
+read-block-requires c κs = tt
 
 enum-known-n : tie.Need-enum-known-n
 enum-known-n c = search needs
 
 first-requires : tie.Need-first-requires
-first-requires c κs = search needs
+first-requires c κs = tt
 
 take-requires : tie.Need-take-requires
-take-requires c κs = search needs
+take-requires c κs =
+    let n = c .before .before .before .before in
+    let r = n .before .before .before .before in
+    let p = r .before .before .before .before .pre in
+    roomy _ (p .0) (n .n .given .0 .0) _ _ (p .1) _ _ _ (r .read-block .ensures) (c .before .first .ensures) (omega arith)
 
 enum-known-n-2 : tie.Need-enum-known-n-2
 enum-known-n-2 c = search needs
 
 first-requires-2 : tie.Need-first-requires-2
-first-requires-2 c κs = search needs
+first-requires-2 c κs = tt
 
 take-last-requires : tie.Need-take-last-requires
-take-last-requires c κs = search needs
+take-last-requires c κs =
+    let n = c .before .before .before .before in
+    let r = n .before .before .before .before in
+    let p = r .before .before .before .before .pre in
+    roomy _ (p .0) (n .n2 .given .0 .0) _ _ (p .1) _ _ _ (r .read-block .ensures) (c .before .first2 .ensures) (omega arith)
 
 enum-told : tie.Need-enum-told
 enum-told c = search needs
@@ -63,8 +49,9 @@ returns : tie.Need-returns
 returns c =
     let t = c .before .before in
     let n = t .before .before .before .before .before in
-    nearer _ _ _ _ _ _ _ _ (n .before .before .before .before .read-block .ensures) (n .n .given .1) (t .before .before .first .ensures) (t .take .ensures)
-    (omega arith)
+    let r = n .before .before .before .before in
+    let p = r .before .before .before .before .pre in
+    nearer _ (p .0) _ _ _ (p .1) _ _ _ (r .read-block .ensures) (t .before .before .first .ensures) (omega arith) (let lost = r .before .before .before .before .good .0 .1 .1 .0 .1 .1 .1 .1 .1 .1 .1 .1 .1 .0 in search needs) _ _ (n .n .given .1) (t .take .ensures)
 
 same-length-3 : tie.Need-same-length-3
 same-length-3 c = search needs
@@ -73,13 +60,13 @@ same-length-4 : tie.Need-same-length-4
 same-length-4 c = search needs
 
 returns-2 : tie.Need-returns-2
-returns-2 c = never _ _ _ (c .before .before .take-last .ensures)
+returns-2 c = never _ (c .before .before .take-last .ensures)
 
 same-length-5 : tie.Need-same-length-5
 same-length-5 c = search needs
 
 returns-3 : tie.Need-returns-3
-returns-3 c = never _ _ _ refl
+returns-3 c = never _ refl
 
 pub turn-spec : {M : Type 1} → statement M
 turn-spec =

@@ -1,0 +1,68 @@
+-- `main` meets its contract: its buffers are for whole lines.
+use native.Mathlib.Omega.{arith}
+use borrow.Author.Needs.{needs}
+use Rattle.console.proofs.Onwards.{again}
+use Rattle.judge.proofs.Blocks.{lent}
+use Rattle.judge.proofs.main.Statement.{statement}
+use Rattle.judge.proofs.main.Tie as tie
+
+slice-aggregate-read-head : tie.Need-slice-aggregate-read-head
+slice-aggregate-read-head c = search needs
+
+read-head-requires : tie.Need-read-head-requires
+read-head-requires c κs = tt
+
+enum-known-n : tie.Need-enum-known-n
+enum-known-n c = search needs
+
+slice-aggregate-start : tie.Need-slice-aggregate-start
+slice-aggregate-start c = search needs
+
+slice-aggregate-start-2 : tie.Need-slice-aggregate-start-2
+slice-aggregate-start-2 c = search needs
+
+start-requires : tie.Need-start-requires
+start-requires c κs = again lent (omega arith) (omega arith)
+
+enum-known-n-2 : tie.Need-enum-known-n-2
+enum-known-n-2 c = search needs
+
+slice-aggregate-start-3 : tie.Need-slice-aggregate-start-3
+slice-aggregate-start-3 c = search needs
+
+slice-aggregate-start-4 : tie.Need-slice-aggregate-start-4
+slice-aggregate-start-4 c = search needs
+
+start-requires-2 : tie.Need-start-requires-2
+start-requires-2 c κs = again lent (omega arith) (omega arith)
+
+enum-told : tie.Need-enum-told
+enum-told c = search needs
+
+returns : tie.Need-returns
+returns c = tt
+
+returns-2 : tie.Need-returns-2
+returns-2 c = tt
+
+returns-3 : tie.Need-returns-3
+returns-3 c = tt
+
+pub main-spec : {M : Type 1} → statement M
+main-spec =
+    tie.close
+    (tie.spec
+    slice-aggregate-read-head
+    read-head-requires
+    enum-known-n
+    slice-aggregate-start
+    slice-aggregate-start-2
+    start-requires
+    enum-known-n-2
+    slice-aggregate-start-3
+    slice-aggregate-start-4
+    start-requires-2
+    enum-told
+    returns
+    returns-2
+    returns-3)
