@@ -1,1 +1,4 @@
 pub mod Onwards
+pub mod Moved
+pub mod Filled
+pub mod Ends

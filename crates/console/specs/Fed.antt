@@ -1,13 +1,13 @@
 -- What a read came to.
 --
---   sizeOf f        == the bytes that were read
+--   sizeOf f        == the bytes that stand in the buffer
 --   moreAfter f     == more may come
---   Ended f n       == no more comes, after n bytes at most
---   Filled f size   == a buffer of that size holds what was read, and more may come exactly where it is full
-use Prim.Native.Nat.{ℕ, _≤_}
+--   Fill f k old new == a read behind the first k bytes of a buffer, which it leaves as they are
+use Prim.Native.Nat.{ℕ, _≤_, _<_}
 use mathlib.Core.Path.{_≡_}
 use mathlib.Core.Bool.{Bool, true, false}
-use lib.Dec.{eqb}
+use mathlib.Core.List.{List}
+use lib.ListN.{length, take}
 use Rattle.console.specs.declared.Fed.{Fed}
 use Rattle.console.specs.declared.Fed.the-variants.{More, Last, Broken}
 
@@ -21,11 +21,9 @@ moreAfter (More n) = true
 moreAfter (Last n) = false
 moreAfter Broken = false
 
-pub record Ended (f : Fed) (n : ℕ) : Type 0 where
-  pub fits : sizeOf f ≤ n
-  pub last : moreAfter f ≡ false
-
--- so every block but the last has all its lines
-pub record Filled (f : Fed) (size : ℕ) : Type 0 where
-  pub fits : sizeOf f ≤ size
-  pub full : moreAfter f ≡ eqb (sizeOf f) size
+pub record Fill (f : Fed) (k : ℕ) (old new : List ℕ) : Type 0 where
+  pub kept : take k new ≡ take k old
+  pub fits : sizeOf f ≤ length new
+  -- more may come only after a read that brought a byte, and the last read brought none
+  pub grows : moreAfter f ≡ true → k < sizeOf f
+  pub ends : (n : ℕ) → f ≡ Last n → n ≡ k

@@ -1,14 +1,18 @@
--- From block to block.
+-- From read to read.
 --
 --   goesOnAfter f   == a block was used up, and the program has not stopped
---   Nearer k l      == lines were counted, l where there were k, and no more than 1,000,000
---   Lent w most block out == buffers of these sizes: one for whole lines of w bytes, and one with room for what they come to, most bytes each
-use Prim.Native.Nat.{ℕ, _+_, _*_, _/_, _%_, _≤_, _<_}
+--   Onward turn w s old t new == a program went on: with the bytes old kept and in the state s before, with new kept and in the state t after
+--   Onwards ..      == it went on so, any number of times
+--   Lent w most block out == buffers of these sizes: one for a line of w bytes and more, and one with room for what its lines come to, most bytes each
+use Prim.Native.Nat.{ℕ, _+_, _*_, _/_, _≤_, _<_}
 use mathlib.Core.Path.{_≡_}
 use mathlib.Core.Bool.{Bool, true, false}
-use Rattle.rules.specs.Codes.{mostCycles}
+use mathlib.Core.List.{List, _++_}
+use lib.ListN.{length}
 use Rattle.streams.specs.declared.Flow.{Flow}
 use Rattle.streams.specs.declared.Flow.the-variants.{GoesOn, Stopped, Short, Unformed}
+use Rattle.streams.specs.Streams.{Turn, on, stretch}
+use Rattle.streams.specs.Blocks.{Whole}
 
 abbrev pub goesOnAfter : Flow → Bool
 goesOnAfter GoesOn = true
@@ -16,12 +20,23 @@ goesOnAfter Stopped = false
 goesOnAfter Short = false
 goesOnAfter Unformed = false
 
--- a loop over blocks that go on only so needs no bound of its own: what is left of 1,000,000 becomes less with each
-abbrev pub Nearer : ℕ → ℕ → Type 0
-Nearer k l = (k < l) × (l ≤ mostCycles)
+-- what was kept and what was read are the lines that were taken and what is kept now: no byte is lost and none is taken twice
+pub record Onward {S : Type 0} (turn : S → List ℕ → Turn S) (w : ℕ) (s : S) (old : List ℕ) (t : S) (new : List ℕ) : Type 0 where
+  pub read : List ℕ
+  pub some : 1 ≤ length read
+  pub lines : List ℕ
+  pub whole : Whole w lines
+  pub all : old ++ read ≡ lines ++ new
+  -- every whole line was taken
+  pub cut : length new < w
+  pub bytes : List ℕ
+  pub taken : stretch turn (length lines) s lines ≡ on bytes t
 
--- so no line is split, and no block is refused for want of room: that of its lines, and of one more
+pub data Onwards {S : Type 0} (turn : S → List ℕ → Turn S) (w : ℕ) (s : S) (old : List ℕ) : S → List ℕ → Type 0 where
+  still : Onwards turn w s old s old
+  further : {t u : S} {kept new : List ℕ} → Onwards turn w s old t kept → Onward turn w t kept u new → Onwards turn w s old u new
+
+-- so a cut line leaves room to read on, and no block is refused for want of room
 pub record Lent (w most block out : ℕ) : Type 0 where
-  pub some : 1 ≤ block
-  pub lines : block % w ≡ 0
+  pub line : w ≤ block
   pub room : (block / w + 1) * most ≤ out

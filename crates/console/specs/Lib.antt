@@ -1,3 +1,5 @@
--- What a read came to, and how a program goes from block to block.
+-- What a read came to, how a program goes from read to read, and how it ends.
 pub mod Fed
 pub mod Going
+pub mod Ends
+pub mod Ran

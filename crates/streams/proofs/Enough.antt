@@ -152,7 +152,7 @@ judge-on : (x : Stretch Tally) → asJudge x .flow ≡ GoesOn → (bytes : List 
 judge-on (on bytes s) e = (bytes, refl)
 judge-on (done bytes s) e = let z : _≡_ {A = ℕ} 0 1 = cc in absurd (omega arith)
 
-tally-room : (b : Tally) → tallyFormed b ≡ true → b .judge .count ≤ mostCycles
+pub tally-room : (b : Tally) → tallyFormed b ≡ true → b .judge .count ≤ mostCycles
 unfolding tallyFormed judgeFormed
 tally-room b e =
     let f : leb (b .judge .count) mostCycles ≡ true = search (and-left, and-right) depth 12 in

@@ -13,15 +13,20 @@ give-requires c κs = tt
 goes-on-requires : tie.Need-goes-on-requires
 goes-on-requires c κs = tt
 
+ends-as-requires : tie.Need-ends-as-requires
+ends-as-requires c κs = tt
+
 same-length : tie.Need-same-length
 same-length c = search needs
 
 returns : tie.Need-returns
 returns c =
-    let g = c .before in
-    let a = g .before .before .before .before .before in
-    sorted _ _ _ _ (g .before .give .result) _ (a .before .before .before .before .pre) (a .arbiter-block .ensures .0) (g .goes-on .ensures)
+    let e = c .before in
+    let g = e .before .before in
+    let a = g .before .before .before .before in
+    sorted _ _ _ _ (g .give .result) _ _ (a .before .before .before .before .pre) (a .arbiter-block .ensures .0) (e .before .goes-on .ensures) (e .ends-as .ensures)
 
 pub take-spec : {M : Type 1} → statement M
 take-spec =
-    tie.close (tie.spec arbiter-block-requires give-requires goes-on-requires same-length returns)
+    tie.close
+    (tie.spec arbiter-block-requires give-requires goes-on-requires ends-as-requires same-length returns)

@@ -10,7 +10,7 @@ slice-aggregate-read-head : tie.Need-slice-aggregate-read-head
 slice-aggregate-read-head c = search needs
 
 read-head-requires : tie.Need-read-head-requires
-read-head-requires c κs = tt
+read-head-requires c κs = search needs
 
 enum-known-n : tie.Need-enum-known-n
 enum-known-n c = search needs
@@ -39,14 +39,11 @@ start-requires-2 c κs = again lent (omega arith) (omega arith)
 enum-told : tie.Need-enum-told
 enum-told c = search needs
 
+tell-requires : tie.Need-tell-requires
+tell-requires c κs = search needs
+
 returns : tie.Need-returns
-returns c = tt
-
-returns-2 : tie.Need-returns-2
-returns-2 c = tt
-
-returns-3 : tie.Need-returns-3
-returns-3 c = tt
+returns c = search needs
 
 pub main-spec : {M : Type 1} → statement M
 main-spec =
@@ -63,6 +60,5 @@ main-spec =
     slice-aggregate-start-4
     start-requires-2
     enum-told
-    returns
-    returns-2
-    returns-3)
+    tell-requires
+    returns)

@@ -1,27 +1,26 @@
--- `start` meets its contract: after a header that is accepted what is kept is well formed.
+-- `start` meets its contract: what the header comes to, and the run after one that is accepted.
 use native.Mathlib.Omega.{arith}
 use borrow.Author.Needs.{needs}
 use Rattle.console.proofs.Onwards.{again}
-use Rattle.judge.proofs.Blocks.{begun}
+use Rattle.judge.proofs.Blocks.{wide, begun-formed, begins, refuses}
 use Rattle.judge.proofs.start.Statement.{statement}
 use Rattle.judge.proofs.start.Tie as tie
 
 first-requires : tie.Need-first-requires
-first-requires c κs = tt
+first-requires c κs = search needs
 
 judge-head-requires : tie.Need-judge-head-requires
-judge-head-requires c κs = tt
+judge-head-requires c κs = search needs
 
 give-requires : tie.Need-give-requires
-give-requires c κs = tt
+give-requires c κs = search needs
 
 run-requires : tie.Need-run-requires
 run-requires c κs =
     let g = c .before .before .before .before in
-    let h = g .before .before .before .before in (
-      begun _ _ _ _ (h .judge-head .ensures .0) (g .give .ensures .0 (c .before .before .if1 .taken)) (g .give .ensures .1),
-      again (h .before .before .before .before .before .before .pre) (omega arith) (omega arith),
-    )
+    let h = g .before .before .before .before in
+    let p = h .before .before .before .before .before .before .pre in
+    (begun-formed _ _ _ (h .judge-head .ensures .0) (wide p) _ _ _ (g .give .ensures) (c .before .before .if1 .taken), again p (omega arith) (omega arith))
 
 same-length : tie.Need-same-length
 same-length c = search needs
@@ -30,7 +29,14 @@ same-length-2 : tie.Need-same-length-2
 same-length-2 c = search needs
 
 returns : tie.Need-returns
-returns c = tt
+returns c =
+    let r = c .before .before .before .before in
+    let i = r .before .before .before in
+    let g = i .before .before in
+    let h = g .before .before .before .before in
+    let f = h .before .before in
+    let p = f .before .before .before .before .pre in
+    rw (f .first .ensures) at (begins _ _ _ (h .judge-head .ensures .0) (wide p) _ _ _ (g .give .ensures) _ (i .if1 .taken) (r .run .ensures))
 
 same-length-3 : tie.Need-same-length-3
 same-length-3 c = search needs
@@ -39,7 +45,12 @@ same-length-4 : tie.Need-same-length-4
 same-length-4 c = search needs
 
 returns-2 : tie.Need-returns-2
-returns-2 c = tt
+returns-2 c =
+    let g = c .before .before in
+    let h = g .before .before .before .before in
+    let f = h .before .before in
+    let p = f .before .before .before .before .pre in
+    rw (f .first .ensures) at (refuses _ _ _ (h .judge-head .ensures .0) (wide p) _ _ _ (g .give .ensures) (c .if1 .left))
 
 pub start-spec : {M : Type 1} → statement M
 start-spec =

@@ -1,14 +1,14 @@
--- `take` meets its contract: the answer of the block.
+-- `take` meets its contract: the answer of the block, sorted.
 use borrow.Author.Needs.{needs}
 use Rattle.judge.proofs.Blocks.{answered}
 use Rattle.judge.proofs.take.Statement.{statement}
 use Rattle.judge.proofs.take.Tie as tie
 
 judge-block-requires : tie.Need-judge-block-requires
-judge-block-requires c κs = tt
+judge-block-requires c κs = search needs
 
 give-requires : tie.Need-give-requires
-give-requires c κs = tt
+give-requires c κs = search needs
 
 same-length : tie.Need-same-length
 same-length c = search needs
@@ -16,7 +16,7 @@ same-length c = search needs
 returns : tie.Need-returns
 returns c =
     let a = c .before .before .before .before in
-    answered _ _ _ _ _ _ (a .before .before .before .before .pre) (a .judge-block .ensures .0) (c .give .ensures)
+    answered _ _ _ _ _ _ _ (a .before .before .before .before .pre) (a .judge-block .ensures .0) (c .give .ensures)
 
 pub take-spec : {M : Type 1} → statement M
 take-spec = tie.close (tie.spec judge-block-requires give-requires same-length returns)
