@@ -1,7 +1,7 @@
-/* `calls plain N CALLS` and `calls product N CALLS` call the host's step so many times, as a simulator
-   does; `calls none N CALLS` calls a step that does nothing; `calls same N CALLS` gives both the same
-   states, inputs and buffers, good and bad, and compares the answers and every byte. Status 0 if all went
-   well. */
+/* `calls KIND N CALLS` calls the host's step so many times, as a simulator does. The kind is `line` for the step with
+   the trace line or `outputs` for the one with the numbers, after `plain-` or `product-`; `none` calls a step that does
+   nothing; `same` gives both sides the same states, inputs and buffers, good and bad, in both forms, and compares the
+   answers and every byte. Status 0 if all went well. */
 #include "step.h"
 
 enum { INPUTS = 4096, RUN = 1000000, ROOM = 48 };
@@ -26,24 +26,24 @@ static struct inputs draw(u32 n) {
     return (struct inputs){hbusreq, hlock, hready, htrans[below(4)], hburst[below(4)]};
 }
 
-INLINE u32 call(step_call *step, const struct inputs *in, u8 *state, u64 state_len, u8 *line, u64 line_len) {
-    return step(in->hbusreq, in->hlock, in->hready, in->htrans, in->hburst, state, state_len, line, line_len);
+INLINE u32 call(step_call *step, const struct inputs *in, u8 *state, u64 state_len, u8 *shown, u64 shown_len) {
+    return step(in->hbusreq, in->hlock, in->hready, in->htrans, in->hburst, state, state_len, shown, shown_len);
 }
 
-static int time_calls(reset_call *reset, step_call *step, u32 n, u32 calls) {
+static int time_calls(reset_call *reset, step_call *step, u64 shown_len, u32 n, u32 calls) {
     static struct inputs table[INPUTS];
-    u8 state[STATE_BYTES], line[LINE_BYTES];
+    u8 state[STATE_BYTES], shown[LINE_BYTES];
     u32 refusals = 0;
     for (u32 i = 0; i < INPUTS; i++) table[i] = draw(n);
     for (u32 i = 0; i < calls; i++) {
         if (i % RUN == 0) refusals |= reset(n, state, sizeof state);
-        refusals |= call(step, &table[i % INPUTS], state, sizeof state, line, sizeof line);
+        refusals |= call(step, &table[i % INPUTS], state, sizeof state, shown, shown_len);
     }
     return refusals != 0;
 }
 
 /* Sometimes something that is refused, or may be. */
-static void spoil(struct inputs *in, u8 *state, u64 *state_len, u64 *line_len) {
+static void spoil(struct inputs *in, u8 *state, u64 *state_len, u64 *shown_len) {
     u32 *const numbers[5] = {&in->hbusreq, &in->hlock, &in->hready, &in->htrans, &in->hburst};
     switch (below(8)) {
     case 0: *numbers[below(5)] = below(9); break;
@@ -52,7 +52,7 @@ static void spoil(struct inputs *in, u8 *state, u64 *state_len, u64 *line_len) {
     case 3: state[below(8)] = (u8)below(5); break;
     case 4: store4(state + 8, RUN - 1 + below(3)); break;
     case 5: *state_len = below(ROOM); break;
-    case 6: *line_len = below(ROOM); break;
+    case 6: *shown_len = below(ROOM); break;
     default: break;
     }
 }
@@ -63,7 +63,8 @@ static int compare_calls(u32 n, u32 calls) {
     for (u32 i = 0; i < ROOM; i++) plain[0][i] = plain[1][i] = (u8)below(256);
     for (u32 i = 0; i < calls; i++) {
         struct inputs in = draw(n);
-        u64 state_len = STATE_BYTES, line_len = LINE_BYTES;
+        u32 line = below(2);
+        u64 state_len = STATE_BYTES, shown_len = line ? LINE_BYTES : OUTPUT_BYTES;
         /* from reset now and then, and so after every spoilt call */
         if (bad || below(64) == 0) {
             u32 masters = below(8) ? n : below(20);
@@ -74,10 +75,10 @@ static int compare_calls(u32 n, u32 calls) {
             state_len = STATE_BYTES;
         }
         bad = below(16) == 0;
-        if (bad) spoil(&in, plain[0], &state_len, &line_len);
+        if (bad) spoil(&in, plain[0], &state_len, &shown_len);
         __builtin_memcpy(product, plain, sizeof plain);
-        u32 one = call(plain_step, &in, plain[0], state_len, plain[1], line_len);
-        u32 two = call(espigambre_step, &in, product[0], state_len, product[1], line_len);
+        u32 one = call(line ? plain_step : plain_step_outputs, &in, plain[0], state_len, plain[1], shown_len);
+        u32 two = call(line ? espigambre_step : espigambre_step_outputs, &in, product[0], state_len, product[1], shown_len);
         if (one != two || __builtin_memcmp(plain, product, sizeof plain)) return 1;
     }
     return 0;
@@ -91,12 +92,14 @@ static u32 number(const char *text) {
 
 int main(int words, char **word) {
     if (words != 4) return 2;
+    const char *kind = word[1];
     u32 n = number(word[2]), calls = number(word[3]);
-    switch (word[1][1]) { /* pLain, pRoduct, nOne, sAme */
-    case 'l': return time_calls(plain_reset, plain_step, n, calls);
-    case 'r': return time_calls(espigambre_reset, espigambre_step, n, calls);
-    case 'o': return time_calls(plain_reset, no_step, n, calls);
-    case 'a': return compare_calls(n, calls);
-    default: return 2;
-    }
+#define IS(name) (__builtin_strcmp(kind, name) == 0)
+    if (IS("plain-line")) return time_calls(plain_reset, plain_step, LINE_BYTES, n, calls);
+    if (IS("product-line")) return time_calls(espigambre_reset, espigambre_step, LINE_BYTES, n, calls);
+    if (IS("plain-outputs")) return time_calls(plain_reset, plain_step_outputs, OUTPUT_BYTES, n, calls);
+    if (IS("product-outputs")) return time_calls(espigambre_reset, espigambre_step_outputs, OUTPUT_BYTES, n, calls);
+    if (IS("none")) return time_calls(plain_reset, no_step, LINE_BYTES, n, calls);
+    if (IS("same")) return compare_calls(n, calls);
+    return 2;
 }

@@ -1,5 +1,5 @@
-/* The host's reset and step in plain C. State bytes: n, g, m, HMASTLOCK, GRANTED, phase (0 Fresh, 1
-   Fixed, 2 Open, 3 Done), k, 0, and the count, low byte first. */
+/* The host's reset and both forms of its step in plain C. State bytes: n, g, m, HMASTLOCK, GRANTED, phase (0
+   Fresh, 1 Fixed, 2 Open, 3 Done), k, 0, and the count, low byte first. */
 #include "arbitrate.h"
 #include "put.h"
 #include "step.h"
@@ -61,9 +61,16 @@ APART u32 refusal_of(u32 masks, u32 hready, u32 htrans, u32 hburst) {
     return not_built(htrans, hburst) ? 5 : 6;
 }
 
-u32 plain_step(u32 hbusreq, u32 hlock, u32 hready, u32 htrans, u32 hburst, u8 *state, u64 state_len, u8 *line,
-               u64 line_len) {
-    if (RARELY(state_len < STATE_BYTES || line_len < LINE_BYTES)) return 9;
+/* The outputs as bytes, with DECIDE low: HGRANT in two, then HMASTER and HMASTLOCK, which stand where the state has
+   them, 0, GRANTED, BUSREQ, 0. */
+INLINE u64 numbers(u64 bytes, u64 g, u64 request) {
+    return 1ul << g | (bytes & 0x010f0000) | (bytes & GRANTED) << 8 | request << 48;
+}
+
+/* Both forms of the step; `text` is a constant where it is called. */
+INLINE u32 step(u32 text, u32 hbusreq, u32 hlock, u32 hready, u32 htrans, u32 hburst, u8 *state, u64 state_len, u8 *shown,
+                u64 shown_len) {
+    if (RARELY(state_len < STATE_BYTES || shown_len < (text ? LINE_BYTES : OUTPUT_BYTES))) return 9;
     u64 bytes = load8(state), g = bytes >> 8 & 15, m = bytes >> 16 & 15;
     u32 n = bytes & 31, there = masters[n], phase = phases[held(bytes, g == m)], count = load4(state + 8);
     if (RARELY(bytes & ~STATE_BITS)) return 10;
@@ -73,10 +80,23 @@ u32 plain_step(u32 hbusreq, u32 hlock, u32 hready, u32 htrans, u32 hburst, u8 *s
     if (RARELY(!good(masks, there, hready, htrans, hburst))) return refusal_of(masks, hready, htrans, hburst);
     struct arbiter a = {ALL_LOW | (bytes >> 24 & 1) | (bytes & GRANTED), g, m, phase >> 1};
     struct inputs c = {hbusreq, hlock, CODES(hready, htrans, hburst)};
-    put_five(line, hbusreq, hlock, hready, htrans, hburst, '\t');
-    put_six(line + 15, grants[g], owners[m], arbitrate(&a, &c));
+    if (text) put_five(shown, hbusreq, hlock, hready, htrans, hburst, '\t');
+    else store8(shown, numbers(bytes, g, hbusreq >> m & 1));
+    u64 flags = arbitrate(&a, &c);
+    if (text) put_six(shown + 15, grants[g], owners[m], flags);
+    else shown[4] = flags >> 16 & 1;
     pack(state, n, &a, count + 1);
     return 0;
+}
+
+u32 plain_step(u32 hbusreq, u32 hlock, u32 hready, u32 htrans, u32 hburst, u8 *state, u64 state_len, u8 *line,
+               u64 line_len) {
+    return step(1, hbusreq, hlock, hready, htrans, hburst, state, state_len, line, line_len);
+}
+
+u32 plain_step_outputs(u32 hbusreq, u32 hlock, u32 hready, u32 htrans, u32 hburst, u8 *state, u64 state_len, u8 *outputs,
+                       u64 outputs_len) {
+    return step(0, hbusreq, hlock, hready, htrans, hburst, state, state_len, outputs, outputs_len);
 }
 
 u32 no_step(u32 hbusreq, u32 hlock, u32 hready, u32 htrans, u32 hburst, u8 *state, u64 state_len, u8 *line,
