@@ -35,15 +35,17 @@ INLINE u32 counts_ok(u64 lost, u32 n, u32 masters) {
     return !((lost & EACH(0xf0)) | ((lost + EACH(0x80) - EACH(1) * n) & EACH(0x80)) | (lost & ~first(masters)));
 }
 
-/* The previous cycle in its fourteen bytes; answers whether it is valid. */
+/* The previous cycle in its fourteen bytes; answers whether it is valid. Bits 32, 40, 41, 48 and 49 of the first eight come
+   side by side, and so do the four flags of the last. */
 INLINE u32 see_cycle(const u8 *at, u32 there, struct cycle *p) {
     u64 low = load8(at), high = load8(at + 6);
-    u32 codes = CODES(low >> 32 & 1, low >> 40 & 3, low >> 48 & 3);
+    u32 codes = (low >> 32 & 0x030301) * (1u << 18 | 1u << 11 | 1u << 5) >> 18 & 31;
+    u32 flags = (u32)((high >> 32 & 0x01010101) * (1u << 24 | 1u << 17 | 1u << 10 | 1u << 3) >> 24 & 15);
     p->hbusreq = (u32)low & 0xffff;
     p->hlock = (u32)low >> 16;
     p->hgrant = high >> 8 & 0xffff;
     p->hmaster = high >> 24 & 15;
-    p->now = number(codes, high >> 32 & 1, high >> 40 & 1, high >> 48 & 1, (u32)(high >> 56) & 1);
+    p->now = codes | flags << 5;
     return !((low & 0x00fcfcfe00000000ul) | (high & 0xfefefefef0000000ul) | ((p->hbusreq | p->hlock | p->hgrant) & ~there) |
              (NOT_BUILT >> codes & 1)) &&
            (there >> p->hmaster & 1);
@@ -69,15 +71,13 @@ INLINE u32 see(const u8 *bytes, struct judge *j) {
     return head == j->n && !(load8(bytes + 12) | load8(bytes + 18) | j->lost[0] | j->lost[1]);
 }
 
-INLINE void put(u8 *bytes, const struct judge *j, const struct cycle *t, const u8 codes[3]) {
+/* The judge after a cycle, whose codes and flags come as bytes. */
+INLINE void put(u8 *bytes, const struct judge *j, const struct cycle *t, u32 codes, u32 flags) {
     u64 head = j->n | j->opened << 8 | j->watch << 16 | j->k << 24 | (u64)j->locked << 32 | (u64)j->waited << 48;
-    u64 flags = (t->now >> 5 & 1) | (t->now >> 6 & 1) << 8 | (t->now >> 7 & 1) << 16 | t->now >> 8 << 24;
     store8(bytes, head);
     store4(bytes + 8, j->count + 1);
-    store4(bytes + 12, t->hbusreq | t->hlock << 16);
-    bytes[16] = codes[0];
-    bytes[17] = codes[1];
-    store8(bytes + 18, codes[2] | t->hgrant << 8 | t->hmaster << 24 | flags << 32);
+    store8(bytes + 12, t->hbusreq | t->hlock << 16 | (u64)codes << 32);
+    store8(bytes + 19, t->hgrant | t->hmaster << 16 | (u64)flags << 24);
     store8(bytes + 26, j->lost[0]);
     store8(bytes + 34, j->lost[1]);
 }
@@ -131,19 +131,33 @@ INLINE u32 losses(struct judge *j, u32 losers) {
 
 /* The rules that compare the previous cycle with this one, but for G11. */
 INLINE u32 pair(const struct cycle *p, const struct cycle *t, u32 request) {
-    u32 charged = 0, moved = p->now ^ t->now, handover = is_handover(p);
+    u32 charged = 0, moved = p->now ^ t->now;
     CHARGE(A3, ~(p->hbusreq | p->hlock) & t->hlock & ~t->hbusreq);
-    CHARGE(A4, !(p->now & READY) && moved & (TRANS | BURST));
-    CHARGE(A5, trans(p) == IDLE && trans(t) == SEQ);
-    CHARGE(A6, (p->now & (READY | TRANS | BURST | GRANTS)) == CODES(1, NONSEQ, INCR4) && trans(t) != SEQ);
-    CHARGE(A7, handover && request && trans(t) != NONSEQ);
-    CHARGE(G4, p->now & DECIDES && p->hbusreq && !(t->now & GRANTS));
-    CHARGE(G5, p->now & GRANTS && (t->now >> 7 & 1) == (p->now & READY));
-    CHARGE(G6, p->now & READY && p->hgrant != 1u << t->hmaster);
-    CHARGE(G7, handover && p->hlock & p->hgrant && !(t->now & LOCKED));
-    CHARGE(G8, !handover && ((p->hmaster ^ t->hmaster) | (moved & LOCKED)));
-    CHARGE(G9, !(p->now & DECIDES) && p->hgrant != t->hgrant);
-    CHARGE(G10, (t->hgrant & ~(p->hbusreq | p->hgrant | 1)) || (p->now & DECIDES && !p->hbusreq && !(t->hgrant & 1)));
+    if (p->now & READY) {
+        CHARGE(G6, p->hgrant != 1u << t->hmaster);
+    } else {
+        CHARGE(A4, moved & (TRANS | BURST));
+    }
+    if (trans(p) == IDLE) {
+        CHARGE(A5, trans(t) == SEQ);
+    } else if ((p->now & (READY | TRANS | BURST | GRANTS)) == CODES(1, NONSEQ, INCR4)) {
+        CHARGE(A6, trans(t) != SEQ);
+    }
+    if (is_handover(p)) {
+        CHARGE(A7, request && trans(t) != NONSEQ);
+        CHARGE(G5, t->now & GRANTS);
+        CHARGE(G7, p->hlock & p->hgrant && !(t->now & LOCKED));
+    } else {
+        CHARGE(G5, p->now & ~t->now & GRANTS);
+        CHARGE(G8, (p->hmaster ^ t->hmaster) | (moved & LOCKED));
+    }
+    if (p->now & DECIDES) {
+        CHARGE(G4, p->hbusreq && !(t->now & GRANTS));
+        CHARGE(G10, (t->hgrant & ~(p->hbusreq | p->hgrant | 1)) || (!p->hbusreq && !(t->hgrant & 1)));
+    } else if (RARELY(p->hgrant != t->hgrant)) {
+        charged |= 1u << G9;
+        CHARGE(G10, t->hgrant & ~(p->hbusreq | p->hgrant | 1));
+    }
     return charged;
 }
 
@@ -181,7 +195,7 @@ u32 plain_judge_step(u32 hbusreq, u32 hlock, u32 hready, u32 htrans, u32 hburst,
     if (RARELY(hmaster >= j.n)) return 7;
     struct cycle t = {hbusreq, hlock, hgrant, hmaster, number(CODES(hready, htrans, hburst), hmastlock, decide, granted, busreq)};
     store4(broken, charges(&j, &t));
-    put(judge, &j, &t, (u8[3]){(u8)hready, (u8)htrans, (u8)hburst});
+    put(judge, &j, &t, hready | htrans << 8 | hburst << 16, hmastlock | decide << 8 | granted << 16 | busreq << 24);
     return 0;
 }
 
