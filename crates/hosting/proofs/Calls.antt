@@ -1,6 +1,6 @@
 -- The host's calls are the plain ones, of the state that its bytes write.
 --
---   short-state, short-line, short-reset == a buffer that is too short is refusal 9
+--   short-state, short-shown, short-reset == a buffer that is too short is refusal 9
 --   plain-step     == with both buffers long enough, a call is the step of the state that the bytes write
 --   plain-reset    == with the buffer long enough, a call is the reset
 --   plain-number   == it answers the number that the step answers
@@ -35,22 +35,22 @@ use Rattle.rules.proofs.WellFormed.{masters-ok, reset-taken, reset-sound}
 use Rattle.rules.proofs.Taken.{taken, decide, next-n}
 use Rattle.rules.proofs.Shown.{valid-shown}
 use Rattle.rules.proofs.Kept.{kept}
-use Rattle.formats.specs.Lines.{traceLine}
 use Rattle.hosting.specs.declared.Lent.{Lent}
 use Rattle.hosting.specs.declared.Lent.the-variants.{Known, Unknown}
 use Rattle.hosting.specs.declared.Outcome.{Outcome}
 use Rattle.hosting.specs.declared.Outcome.the-variants.{Taken, Refused}
 use Rattle.hosting.specs.Bytes.{stateSize, stateBytes, bytesState}
-use Rattle.hosting.specs.Calls.{lineSize, ofAnswer, ofLent, hostStep, hostNumber, stateStored, lineStored, hostState, hostLine, hostReset, hostStart, StepCall, ResetCall}
+use Rattle.hosting.specs.Calls.{Display, ofAnswer, ofLent, hostStep, hostNumber, stateStored, cycleStored, hostState, hostShown, hostReset, hostStart, StepCall, ResetCall}
 use Rattle.hosting.proofs.Bytes.{state-again}
 
-pub short-state : (state line : List ℕ) (x : Inputs) → length state < stateSize → hostStep state line x ≡ Refused Short
-unfolding hostStep
-short-state state line x h = simp (lt-ltb (length state) 12 h)
+module _ (d : Display) (state shown : List ℕ) (x : Inputs) where
+  pub short-state : length state < stateSize → hostStep d state shown x ≡ Refused Short
+  unfolding hostStep
+  short-state h = simp (lt-ltb (length state) 12 h)
 
-pub short-line : (state line : List ℕ) (x : Inputs) → stateSize ≤ length state → length line < lineSize → hostStep state line x ≡ Refused Short
-unfolding hostStep
-short-line state line x room h = simp (le-ltb (length state) 12 room, lt-ltb (length line) 31 h)
+  pub short-shown : stateSize ≤ length state → length shown < d .size → hostStep d state shown x ≡ Refused Short
+  unfolding hostStep
+  short-shown room h = simp (le-ltb (length state) 12 room, lt-ltb (length shown) (d .size) h)
 
 pub short-reset : (n : ℕ) (state : List ℕ) → length state < stateSize → hostReset n state ≡ Unready Short
 unfolding hostReset
@@ -61,22 +61,22 @@ unfolding hostReset
 plain-reset n state room = simp (le-ltb (length state) 12 room)
 
 -- two buffers that are long enough
-module _ (state line : List ℕ) (x : Inputs) (room : stateSize ≤ length state) (space : lineSize ≤ length line) where
-  pub long-enough : hostStep state line x ≡ ofLent (bytesState state) x
+module _ (d : Display) (state shown : List ℕ) (x : Inputs) (room : stateSize ≤ length state) (space : d .size ≤ length shown) where
+  pub long-enough : hostStep d state shown x ≡ ofLent (bytesState state) x
   unfolding hostStep
-  long-enough = simp (le-ltb (length state) 12 room, le-ltb (length line) 31 space)
+  long-enough = simp (le-ltb (length state) 12 room, le-ltb (length shown) (d .size) space)
 
-  pub plain-step : (s : State) → bytesState state ≡ Known s → hostStep state line x ≡ ofAnswer (stepOf s x) x
+  pub plain-step : (s : State) → bytesState state ≡ Known s → hostStep d state shown x ≡ ofAnswer (stepOf s x) x
   unfolding ofLent
   plain-step s e = rw (long-enough, e)
 
   pub plain-bytes : (s t : State) (o : Outputs) → bytesState state ≡ Known s → stepOf s x ≡ answer.Next t o
-      → (hostState (hostStep state line x) state ≡ stateBytes t ++ drop stateSize state)
-      × (hostLine (hostStep state line x) line ≡ traceLine (record { inputs = x; outputs = o }) ++ drop lineSize line)
-  unfolding stateStored lineStored
+      → (hostState (hostStep d state shown x) state ≡ stateBytes t ++ drop stateSize state)
+      × (hostShown d (hostStep d state shown x) shown ≡ d .bytes (record { inputs = x; outputs = o }) ++ drop (d .size) shown)
+  unfolding stateStored cycleStored
   plain-bytes s t o e f = let u = plain-step s e in (rw (u, f), rw (u, f))
 
-  pub no-state : bytesState state ≡ Unknown → hostStep state line x ≡ Refused StateRefusal
+  pub no-state : bytesState state ≡ Unknown → hostStep d state shown x ≡ Refused StateRefusal
   unfolding ofLent
   no-state e = rw (long-enough, e)
 
@@ -84,9 +84,9 @@ pub plain-number : (a : Answer) (x : Inputs) → hostNumber (ofAnswer a x) ≡ a
 plain-number (answer.Next t o) x = refl
 plain-number (answer.Refused r t) x = refl
 
-pub refused-unchanged : (o : Outcome) (state line : List ℕ) → 1 ≤ hostNumber o → (hostState o state ≡ state) × (hostLine o line ≡ line)
-refused-unchanged (Taken t c) state line h = absurd (omega arith)
-refused-unchanged (Refused r) state line h = (refl, refl)
+pub refused-unchanged : (d : Display) (o : Outcome) (state shown : List ℕ) → 1 ≤ hostNumber o → (hostState o state ≡ state) × (hostShown d o shown ≡ shown)
+refused-unchanged d (Taken t c) state shown h = absurd (omega arith)
+refused-unchanged d (Refused r) state shown h = (refl, refl)
 
 -- the bytes l led to the state t by the inputs x, and c was shown
 pub record Follows (l : Lent) (x : Inputs) (t : State) (c : Cycle) : Type 0 where
@@ -133,9 +133,9 @@ reset-known n state room few many =
     (plain-reset n state room ∙ reset-taken n few many, state-again (resetState n) (drop stateSize state) (reset-sound n few many))
 
 -- what the calls promise leaves no choice
-pub step-call-unique : (x : Inputs) (state line : List ℕ) (r r' : ℕ) (s s' l l' : List ℕ) → StepCall x state line r s l → StepCall x state line r' s' l'
+pub step-call-unique : (d : Display) (x : Inputs) (state shown : List ℕ) (r r' : ℕ) (s s' l l' : List ℕ) → StepCall d x state shown r s l → StepCall d x state shown r' s' l'
     → (r ≡ r') × (s ≡ s') × (l ≡ l')
-step-call-unique x state line r r' s s' l l' p q = (p .0 ∙ sym (q .0), p .1 ∙ sym (q .1), p .2 ∙ sym (q .2))
+step-call-unique d x state shown r r' s s' l l' p q = (p .0 ∙ sym (q .0), p .1 ∙ sym (q .1), p .2 ∙ sym (q .2))
 
 pub reset-call-unique : (n : ℕ) (state : List ℕ) (r r' : ℕ) (s s' : List ℕ) → ResetCall n state r s → ResetCall n state r' s' → (r ≡ r') × (s ≡ s')
 reset-call-unique n state r r' s s' p q = (p .0 ∙ sym (q .0), p .1 ∙ sym (q .1))

@@ -1,23 +1,27 @@
--- The two calls of the simulator host. "Order: 9, then as a step; other bytes are refusal 10. In longer buffers only the first 12 and
--- 31 bytes are used." A refusal changes no byte of either buffer.
+-- The calls of the simulator host. "Order: 9, then as a step; other bytes are refusal 10. In longer buffers only the first 12 and
+-- 31 bytes are used." A refusal changes no byte of either buffer. A step shows its cycle in a second buffer: as the trace line, or its six
+-- outputs as numbers.
 --
+--   outputBytes o        == the six outputs as eight bytes
+--   Display, asLine, asNumbers == what the second buffer gets: so many bytes, and which
 --   lent a b c d e       == the five inputs that the host passes as numbers
---   hostStep state line x == what a step of the lent bytes comes to
---   stateStored s buffer, lineStored c buffer == a buffer that gets the state s, or the line of the cycle c
+--   hostStep d state shown x == what a step of the lent bytes comes to
+--   stateStored s buffer, cycleStored d c buffer == a buffer that gets the state s, or the cycle c
 --   hostNumber o         == the number that it answers: 0, or that of the refusal
---   hostState o buffer, hostLine o buffer == the two buffers afterwards
+--   hostState o buffer, hostShown d o buffer == the two buffers afterwards
 --   hostReset n state    == what a reset of the lent bytes comes to; resetAnswer gives its number
 --   hostStart a buffer   == the buffer afterwards
---   StepCall, ResetCall  == the contracts of the two calls
+--   StepCall d, ResetCall == the contracts of the calls
 use Prim.Native.Nat.{ℕ}
 use mathlib.Core.Path.{_≡_}
 use mathlib.Core.Bool.{cond}
-use mathlib.Core.List.{List, _++_}
+use mathlib.Core.List.{List, [], _∷_, _++_}
 use lib.Dec.{ltb}
 use lib.ListN.{length, drop}
 use Rattle.rules.specs.declared.Refusal.the-variants.{Short, State as StateRefusal}
 use Rattle.rules.specs.declared.State.{State}
 use Rattle.rules.specs.declared.Inputs.{Inputs}
+use Rattle.rules.specs.declared.Outputs.{Outputs}
 use Rattle.rules.specs.declared.Cycle.{Cycle}
 use Rattle.rules.specs.declared.Start.{Start}
 use Rattle.rules.specs.declared.Start.the-variants.{Ready, Refused as Unready}
@@ -28,15 +32,27 @@ use Rattle.rules.specs.State.{resetOf}
 use Rattle.rules.specs.Step.{stepOf}
 use Rattle.formats.specs.Fields.{width}
 use Rattle.formats.specs.Lines.{traceFields, traceLine}
+use Rattle.words.specs.Words.{lowFirst}
 use Rattle.hosting.specs.declared.Lent.{Lent}
 use Rattle.hosting.specs.declared.Lent.the-variants.{Known, Unknown}
 use Rattle.hosting.specs.declared.Outcome.{Outcome}
 use Rattle.hosting.specs.declared.Outcome.the-variants.{Taken, Refused}
 use Rattle.hosting.specs.Bytes.{stateSize, stateBytes, bytesState}
 
+-- "HGRANT low byte first, HMASTER, HMASTLOCK, DECIDE, GRANTED, BUSREQ, 0"
+unfoldable pub outputBytes : Outputs → List ℕ
+outputBytes o = lowFirst 2 (o .hgrant) ++ (o .hmaster ∷ o .hmastlock ∷ o .decide ∷ o .granted ∷ o .busreq ∷ 0 ∷ [])
+
+pub record Display : Type 0 where
+  pub size : ℕ
+  pub bytes : Cycle → List ℕ
+
 -- "a second buffer gets the 31-byte line"
-abbrev pub lineSize : ℕ
-lineSize = width traceFields
+abbrev pub asLine : Display
+asLine = record { size = width traceFields; bytes = traceLine }
+
+abbrev pub asNumbers : Display
+asNumbers = record { size = 8; bytes = λ c. outputBytes (c .outputs) }
 
 -- HBUSREQ, HLOCK, HREADY, HTRANS, HBURST
 abbrev pub lent : ℕ → ℕ → ℕ → ℕ → ℕ → Inputs
@@ -52,10 +68,10 @@ unfoldable pub ofLent : Lent → Inputs → Outcome
 ofLent (Known s) x = ofAnswer (stepOf s x) x
 ofLent Unknown x = Refused StateRefusal
 
-unfoldable pub hostStep : List ℕ → List ℕ → Inputs → Outcome
-hostStep state line x =
+unfoldable pub hostStep : Display → List ℕ → List ℕ → Inputs → Outcome
+hostStep d state shown x =
     cond (ltb (length state) stateSize) (Refused Short)
-    (cond (ltb (length line) lineSize) (Refused Short) (ofLent (bytesState state) x))
+    (cond (ltb (length shown) (d .size)) (Refused Short) (ofLent (bytesState state) x))
 
 abbrev pub hostNumber : Outcome → ℕ
 hostNumber (Taken t c) = 0
@@ -65,16 +81,16 @@ hostNumber (Refused r) = numberOf r
 unfoldable pub stateStored : State → List ℕ → List ℕ
 stateStored s buffer = stateBytes s ++ drop stateSize buffer
 
-unfoldable pub lineStored : Cycle → List ℕ → List ℕ
-lineStored c buffer = traceLine c ++ drop lineSize buffer
+unfoldable pub cycleStored : Display → Cycle → List ℕ → List ℕ
+cycleStored d c buffer = d .bytes c ++ drop (d .size) buffer
 
 abbrev pub hostState : Outcome → List ℕ → List ℕ
 hostState (Taken t c) buffer = stateStored t buffer
 hostState (Refused r) buffer = buffer
 
-abbrev pub hostLine : Outcome → List ℕ → List ℕ
-hostLine (Taken t c) buffer = lineStored c buffer
-hostLine (Refused r) buffer = buffer
+abbrev pub hostShown : Display → Outcome → List ℕ → List ℕ
+hostShown d (Taken t c) buffer = cycleStored d c buffer
+hostShown d (Refused r) buffer = buffer
 
 -- 9, then as reset: 1
 unfoldable pub hostReset : ℕ → List ℕ → Start
@@ -84,12 +100,12 @@ abbrev pub hostStart : Start → List ℕ → List ℕ
 hostStart (Ready s) buffer = stateStored s buffer
 hostStart (Unready r) buffer = buffer
 
--- what the two calls promise: of the answer r, and of every byte of the buffers at exit
-abbrev pub StepCall : Inputs → List ℕ → List ℕ → ℕ → List ℕ → List ℕ → Type 0
-StepCall x state line r state' line' =
-    (r ≡ hostNumber (hostStep state line x))
-    × (state' ≡ hostState (hostStep state line x) state)
-    × (line' ≡ hostLine (hostStep state line x) line)
+-- what the calls promise: of the answer r, and of every byte of the buffers at exit
+abbrev pub StepCall : Display → Inputs → List ℕ → List ℕ → ℕ → List ℕ → List ℕ → Type 0
+StepCall d x state shown r state' shown' =
+    (r ≡ hostNumber (hostStep d state shown x))
+    × (state' ≡ hostState (hostStep d state shown x) state)
+    × (shown' ≡ hostShown d (hostStep d state shown x) shown)
 
 abbrev pub ResetCall : ℕ → List ℕ → ℕ → List ℕ → Type 0
 ResetCall n state r state' = (r ≡ resetAnswer (hostReset n state)) × (state' ≡ hostStart (hostReset n state) state)
