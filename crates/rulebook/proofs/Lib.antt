@@ -14,3 +14,4 @@ pub mod Examples
 pub mod Readings
 pub mod Cases
 pub mod Refused
+pub mod Recounted

@@ -2,13 +2,14 @@
 --
 --   mask-below      == a number of k flags is below 2 ^ k
 --   mask-again      == its digits are the flags
+--   mask-bit        == its bit i is the flag i
 --   named-flagged   == it names the rules whose flag is high
 --   named-none      == 0 names none
 --   named-few       == a number names no more rules than there are
 --   First m rs d z, named-first == a number that is not 0 names the rule z at its lowest digit that is 1, and then those of what is left above it
 use Prim.Native.Nat.{ℕ, zero, suc, _+_, _*_, _/_, _%_, _^_, _≤_, _<_}
 use mathlib.Core.Path.{_≡_, refl, sym}
-use mathlib.Core.Bool.{Bool}
+use mathlib.Core.Bool.{Bool, false}
 use mathlib.Core.List.{List, [], _∷_}
 use native.Mathlib.Omega.{arith}
 use native.Mathlib.Nat.{pow-suc}
@@ -16,9 +17,11 @@ use lib.Dec.{eqb}
 use lib.Pow.{shr-shr}
 use lib.Count.{under, trailingZeros}
 use lib.ListN.{length, getD, drop}
+use Rattle.rules.specs.Masks.{high}
 use Rattle.rules.specs.Step.{flagOf}
 use Rattle.rules.proofs.Choice.{cond-elim}
 use Rattle.rules.proofs.Flags.{flag-most, flag-again}
+use Rattle.rules.proofs.Masks.{high-of-zero}
 use Rattle.rulebook.specs.declared.Rule.{Rule}
 use Rattle.rulebook.specs.Step.{flagged}
 use Rattle.rulebook.specs.Named.{maskOf, flagsIn, namedBy}
@@ -47,6 +50,12 @@ pub mask-again : (l : List Bool) → flagsIn (length l) (maskOf l) ≡ l
 unfolding maskOf flagsIn
 mask-again [] = refl
 mask-again (b ∷ l) = rw (lowest b (maskOf l), flag-again b, rest b (maskOf l), mask-again l)
+
+pub mask-bit : (l : List Bool) (i : ℕ) → high (maskOf l) i ≡ getD l i false
+unfolding maskOf high
+mask-bit [] i = high-of-zero i
+mask-bit (b ∷ l) zero = rw (shift-none (flagOf b + 2 * maskOf l), lowest b (maskOf l)) (flag-again b)
+mask-bit (b ∷ l) (suc i) = rw (half-shift (flagOf b + 2 * maskOf l) i, rest b (maskOf l)) (mask-bit l i)
 
 pub named-flagged : (l : List Bool) (rs : List Rule) → length l ≡ length rs → namedBy (maskOf l) rs ≡ flagged l rs
 unfolding maskOf namedBy flagged

@@ -17,3 +17,4 @@ pub mod CasesA
 pub mod CasesWatch
 pub mod CasesG
 pub mod Refused
+pub mod Recounted
