@@ -20,6 +20,7 @@ ghost use Rattle.rulebook.specs.State.{noCycle, startJudge, startOf, wellFormed
 ghost use Rattle.rulebook.specs.Named.{flagsIn};
 ghost use Rattle.rulebook.specs.Step.{refusedOf, takenOf, checkedOf, judgeOf};
 ghost use Rattle.charging.specs.Ready.{Ready};
+ghost use Rattle.judging.specs.Ruled.{ruledOf};
 
 fn no_cycle() -> Cycle
     ensures { λ r. ⌜ r ≡ noCycle ⌝ }
@@ -100,15 +101,60 @@ pub fn well_formed(j: Judge) -> bool
         & start
 }
 
-fn refused(j: Judge, r: Refusal) -> Judgement
-    ensures { λ a. ⌜ a ≡ refusedOf j r ⌝ }
+// The answer of a step with its charges as one number: bit i is that of the i-th rule, in the order of the report.
+pub struct Ruled {
+    pub judge: Judge,
+    pub verdict: Verdict,
+    pub mask: u32,
+}
+
+fn refused(j: Judge, r: Refusal) -> Ruled
+    ensures { λ a. ⌜ a ≡ ruledOf (refusedOf j r) ⌝ }
 {
-    let charged = [false; 21];
-    Judgement {
+    Ruled {
         judge: j,
         verdict: Verdict::Refused(r),
-        charged,
+        mask: 0,
     }
+}
+
+// A cycle that is taken: what it charges, and the judge after it.
+fn take(j: Judge, c: Cycle) -> Ruled
+    requires { ⌜ Ready j c ⌝ }
+    ensures { λ a. ⌜ a ≡ ruledOf (takenOf j c) ⌝ }
+{
+    let kept = keeping::keep(j, c);
+    let judge = kept.judge;
+    let mask = charging::charge_all(j, c, kept.reached);
+    Ruled {
+        judge,
+        verdict: Verdict::Taken,
+        mask,
+    }
+}
+
+// A cycle of a well-formed judge below the count limit: 4, 5, 6, 7.
+fn checked(j: Judge, c: Cycle) -> Ruled
+    requires { ⌜ (wellFormed j ≡ true) × (j .count < mostCycles) ⌝ }
+    ensures { λ a. ⌜ a ≡ ruledOf (checkedOf (cycleCheck (j .n) c) j c) ⌝ }
+{
+    match signals::check_cycle(j.n, c) {
+        Check::Good => take(j, c),
+        Check::Bad(r) => refused(j, r),
+    }
+}
+
+// One cycle: what it charges and the judge after it, or the first refusal of 10, 8, 4, 5, 6, 7 with the judge as it came.
+pub fn rule(j: Judge, c: Cycle) -> Ruled
+    ensures { λ a. ⌜ a ≡ ruledOf (judgeOf j c) ⌝ }
+{
+    if !well_formed(j) {
+        return refused(j, Refusal::State);
+    }
+    if 1000000 <= j.count {
+        return refused(j, Refusal::Full);
+    }
+    checked(j, c)
 }
 
 // For each rule, in the order of the report, whether it is charged.
@@ -131,42 +177,18 @@ fn flags_in(number: u32) -> Charges
     charges
 }
 
-// A cycle that is taken: what it charges, and the judge after it.
-fn take(j: Judge, c: Cycle) -> Judgement
-    requires { ⌜ Ready j c ⌝ }
-    ensures { λ a. ⌜ a ≡ takenOf j c ⌝ }
-{
-    let kept = keeping::keep(j, c);
-    let judge = kept.judge;
-    let all = flags_in(charging::charge_all(j, c, kept.reached));
-    let charged = all.of;
-    Judgement {
-        judge,
-        verdict: Verdict::Taken,
-        charged,
-    }
-}
-
-// A cycle of a well-formed judge below the count limit: 4, 5, 6, 7.
-fn checked(j: Judge, c: Cycle) -> Judgement
-    requires { ⌜ (wellFormed j ≡ true) × (j .count < mostCycles) ⌝ }
-    ensures { λ a. ⌜ a ≡ checkedOf (cycleCheck (j .n) c) j c ⌝ }
-{
-    match signals::check_cycle(j.n, c) {
-        Check::Good => take(j, c),
-        Check::Bad(r) => refused(j, r),
-    }
-}
-
-// One cycle: what it charges and the judge after it, or the first refusal of 10, 8, 4, 5, 6, 7 with the judge as it came.
+// The same cycle with a flag for each rule.
 pub fn step(j: Judge, c: Cycle) -> Judgement
     ensures { λ a. ⌜ a ≡ judgeOf j c ⌝ }
 {
-    if !well_formed(j) {
-        return refused(j, Refusal::State);
+    let ruled = rule(j, c);
+    let judge = ruled.judge;
+    let verdict = ruled.verdict;
+    let all = flags_in(ruled.mask);
+    let charged = all.of;
+    Judgement {
+        judge,
+        verdict,
+        charged,
     }
-    if 1000000 <= j.count {
-        return refused(j, Refusal::Full);
-    }
-    checked(j, c)
 }

@@ -1,39 +1,17 @@
--- `step` meets its contract: 10, then 8, then the rest.
-use native.Mathlib.Omega.{arith}
-use Rattle.judging.proofs.Close.{malformed, sound, full, gone-on}
+-- `step` meets its contract.
+use Rattle.judging.proofs.Close.{flagged}
 use borrow.Author.Needs.{needs}
 use Rattle.judging.proofs.step.Statement.{statement}
 use Rattle.judging.proofs.step.Tie as tie
 
-well-formed-requires : tie.Need-well-formed-requires
-well-formed-requires c κs = search needs
+rule-requires : tie.Need-rule-requires
+rule-requires c κs = search needs
 
-refused-requires : tie.Need-refused-requires
-refused-requires c κs = search needs
+flags-in-requires : tie.Need-flags-in-requires
+flags-in-requires c κs = search needs
 
 returns : tie.Need-returns
-returns c = search malformed
-
-refused-requires-2 : tie.Need-refused-requires-2
-refused-requires-2 c κs = search needs
-
-returns-2 : tie.Need-returns-2
-returns-2 c = search full
-
-checked-requires : tie.Need-checked-requires
-checked-requires c κs = (search sound, omega arith)
-
-returns-3 : tie.Need-returns-3
-returns-3 c = search gone-on
+returns c = search flagged
 
 pub step-spec : {M : Type 1} → statement M
-step-spec =
-    tie.close
-    (tie.spec
-    well-formed-requires
-    refused-requires
-    returns
-    refused-requires-2
-    returns-2
-    checked-requires
-    returns-3)
+step-spec = tie.close (tie.spec rule-requires flags-in-requires returns)

@@ -10,11 +10,8 @@ keep-requires c κs = search needs
 charge-all-requires : tie.Need-charge-all-requires
 charge-all-requires c κs = search needs
 
-flags-in-requires : tie.Need-flags-in-requires
-flags-in-requires c κs = search needs
-
 returns : tie.Need-returns
 returns c = search taken
 
 pub take-spec : {M : Type 1} → statement M
-take-spec = tie.close (tie.spec keep-requires charge-all-requires flags-in-requires returns)
+take-spec = tie.close (tie.spec keep-requires charge-all-requires returns)
