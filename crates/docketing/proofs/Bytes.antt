@@ -11,6 +11,8 @@ use lib.Dec.{eqb, leb}
 use lib.ListN.{length, getD, take, drop, length-append, List·getD-eq-default}
 use lib.Seq.{take-at, take-add, drop-drop}
 use Rattle.rules.specs.declared.Check.the-variants.{Good}
+use Rattle.rules.specs.declared.Inputs.{Inputs}
+use Rattle.rules.specs.declared.Outputs.{Outputs}
 use Rattle.rules.specs.declared.Cycle.{Cycle}
 use Rattle.rules.specs.Codes.{mostMasters}
 use Rattle.rules.specs.Valid.{inputsTooLarge, outputsTooLarge, cycleCheck}
@@ -26,8 +28,8 @@ use Rattle.rulebook.specs.Kept.{Sound}
 use Rattle.formats.proofs.Limits.{inputs-small, outputs-small}
 use Rattle.words.specs.Words.{lowFirst, numberLow}
 use Rattle.words.proofs.Words.{Bytes, none-bytes, one-more, slots, slots-take, number-bytes, bytes-of-number}
-use Rattle.docketing.specs.Bytes.{judgeSize, watchByte, leftByte, headBytes, cycleBytes, judgeBytes, watchOf, isJudge, cycleIn, judgeIn, known, unknown, bytesJudge}
-use Rattle.docketing.specs.Fits.{CycleFits, JudgeFits}
+use Rattle.docketing.specs.Bytes.{judgeSize, watchByte, leftByte, headBytes, inputBytes, outputBytes, cycleBytes, judgeBytes, watchOf, isJudge, cycleIn, judgeIn, known, unknown, bytesJudge}
+use Rattle.docketing.specs.Fits.{InputsFit, OutputsFit, JudgeFits}
 use Rattle.docketing.specs.Promises.{AreBytes, HasItsBytes, ReadAgain, WrittenAgain, OneJudge}
 
 -- a flag's byte, and the watch's two
@@ -68,37 +70,40 @@ left-below opened OnG2 e = omega arith
 left-below opened (OnG3 k) e = let f : leb k 3 ≡ true = search (and-left, and-right) depth 9 in omega (arith, leb-true k 3 f)
 
 -- what is well formed fits
-cycle-fits : (n : ℕ) (c : Cycle) → n ≤ 16 → cycleCheck n c ≡ Good → CycleFits c
+cycle-fits : (n : ℕ) (c : Cycle) → n ≤ 16 → cycleCheck n c ≡ Good → InputsFit (c .inputs) × OutputsFit (c .outputs)
 cycle-fits n c many e =
     let p = cycle-passed n c e in
     let x = inputs-small (c .inputs) (or-left (inputsTooLarge (c .inputs)) (outputsTooLarge (c .outputs)) (p .value)) in
     let o = outputs-small (c .outputs) (or-right (inputsTooLarge (c .inputs)) (outputsTooLarge (c .outputs)) (p .value)) in
-    let m = leb-false n (c .outputs .hmaster) (p .owner) in
-    record {
-      hbusreq = omega arith;
-      hlock = omega arith;
-      hready = omega arith;
-      htrans = omega arith;
-      hburst = omega arith;
-      hgrant = omega arith;
-      hmaster = omega arith;
-      hmastlock = omega arith;
-      decide = omega arith;
-      granted = omega arith;
-      busreq = omega arith;
-    }
+    let m = leb-false n (c .outputs .hmaster) (p .owner) in (
+      record { hbusreq = omega arith; hlock = omega arith; hready = omega arith; htrans = omega arith; hburst = omega arith },
+      record {
+        hgrant = omega arith;
+        hmaster = omega arith;
+        hmastlock = omega arith;
+        decide = omega arith;
+        granted = omega arith;
+        busreq = omega arith;
+      },
+    )
+
+low-at : (j : Judge) → Sound j → (i : ℕ) → getD (j .lost) i 0 < 256
+low-at j s i =
+    order 16 i (λ out. omega (arith, List·getD-eq-default (j .lost) 0 {n = i} (omega (arith, s .size))))
+    (λ below. omega (arith, s .lost i below, s .many))
 
 pub judge-fits : (j : Judge) → Sound j → JudgeFits j
 judge-fits j s =
+    let columns = cycle-fits (j .n) (j .previous) (s .many) (s .previous) in
     record {
       n = omega (arith, s .many);
       left = left-below (j .opened) (j .watch) (s .watch);
       locked = omega (arith, s .locked);
       waited = omega (arith, s .waited);
       count = omega (arith, s .room);
-      previous = cycle-fits (j .n) (j .previous) (s .many) (s .previous);
-      size = s .size;
-      lost = λ i. order 16 i (λ out. omega (arith, List·getD-eq-default (j .lost) 0 {n = i} (omega (arith, s .size)))) (λ below. omega (arith, s .lost i below, s .many));
+      inputs = columns .0;
+      outputs = columns .1;
+      lost = record { size = s .size; below = low-at j s };
     }
 
 -- its bytes
@@ -114,45 +119,54 @@ head-bytes j f =
     let rest = joined (lowFirst 2 (j .locked)) (j .waited ∷ 0 ∷ lowFirst 4 (j .count)) (number-bytes 2 (j .locked)) (one-more (f .waited) (one-more spare (number-bytes 4 (j .count)))) in
     one-more (f .n) (one-more opened (one-more (watch-below (j .watch)) (one-more (f .left) rest)))
 
-cycle-bytes : (c : Cycle) → CycleFits c → Bytes (cycleBytes c)
+input-bytes : (x : Inputs) → InputsFit x → Bytes (inputBytes x)
+unfolding inputBytes
+input-bytes x f =
+    let codes = one-more (f .hready) (one-more (f .htrans) (one-more (f .hburst) none-bytes)) in
+    joined _ _ (number-bytes 2 (x .hbusreq)) (joined _ _ (number-bytes 2 (x .hlock)) codes)
+
+output-bytes : (o : Outputs) → OutputsFit o → Bytes (outputBytes o)
+unfolding outputBytes
+output-bytes o f =
+    let flags = one-more (f .hmastlock) (one-more (f .decide) (one-more (f .granted) (one-more (f .busreq) none-bytes))) in
+    joined _ _ (number-bytes 2 (o .hgrant)) (one-more (f .hmaster) flags)
+
+cycle-bytes : (c : Cycle) → InputsFit (c .inputs) → OutputsFit (c .outputs) → Bytes (cycleBytes c)
 unfolding cycleBytes
-cycle-bytes c f =
-    let flags = one-more (f .hmaster) (one-more (f .hmastlock) (one-more (f .decide) (one-more (f .granted) (one-more (f .busreq) none-bytes)))) in
-    let codes = one-more (f .hready) (one-more (f .htrans) (one-more (f .hburst) (joined _ _ (number-bytes 2 (c .outputs .hgrant)) flags))) in
-    joined _ _ (number-bytes 2 (c .inputs .hbusreq)) (joined _ _ (number-bytes 2 (c .inputs .hlock)) codes)
+cycle-bytes c f g = joined (inputBytes (c .inputs)) (outputBytes (c .outputs)) (input-bytes (c .inputs) f) (output-bytes (c .outputs) g)
 
 pub judge-length : (j : Judge) → JudgeFits j → length (judgeBytes j) ≡ judgeSize
-unfolding judgeBytes headBytes cycleBytes
-judge-length j f = omega (arith, f .size)
+unfolding judgeBytes headBytes cycleBytes inputBytes outputBytes
+judge-length j f = omega (arith, f .lost .size)
 
 pub has-its-bytes : HasItsBytes
 unfolding judgeBytes
 has-its-bytes j s =
     let f = judge-fits j s in
     let all = joined (headBytes j) (cycleBytes (j .previous) ++ j .lost) (head-bytes j f)
-    (joined (cycleBytes (j .previous)) (j .lost) (cycle-bytes (j .previous) (f .previous)) (record { below = f .lost })) in
+    (joined (cycleBytes (j .previous)) (j .lost) (cycle-bytes (j .previous) (f .inputs) (f .outputs)) (record { below = f .lost .below })) in
     (judge-length j f, all .below)
 
 -- what they are read as
-cycle-again : (j : Judge) (rest : List ℕ) → CycleFits (j .previous) → cycleIn (judgeBytes j ++ rest) ≡ j .previous
-unfolding judgeBytes headBytes cycleBytes cycleIn
-cycle-again j rest f =
+cycle-again : (j : Judge) (rest : List ℕ) → InputsFit (j .previous .inputs) → OutputsFit (j .previous .outputs) → cycleIn (judgeBytes j ++ rest) ≡ j .previous
+unfolding judgeBytes headBytes cycleBytes inputBytes outputBytes cycleIn
+cycle-again j rest f g =
     let b : List ℕ = judgeBytes j ++ rest in
     let hbusreq : numberLow 2 b 12 ≡ j .previous .inputs .hbusreq = omega (arith, f .hbusreq) in
     let hlock : numberLow 2 b 14 ≡ j .previous .inputs .hlock = omega (arith, f .hlock) in
-    let hgrant : numberLow 2 b 19 ≡ j .previous .outputs .hgrant = omega (arith, f .hgrant) in
+    let hgrant : numberLow 2 b 19 ≡ j .previous .outputs .hgrant = omega (arith, g .hgrant) in
     rw (hbusreq, hlock, hgrant)
 
 pub read-again : ReadAgain
-unfolding bytesJudge judgeBytes headBytes cycleBytes isJudge judgeIn
+unfolding bytesJudge judgeBytes headBytes cycleBytes inputBytes outputBytes isJudge judgeIn
 read-again j rest s =
     let f = judge-fits j s in
     let b : List ℕ = judgeBytes j ++ rest in
     let locked : numberLow 2 b 4 ≡ j .locked = omega (arith, f .locked) in
     let count : numberLow 4 b 8 ≡ j .count = omega (arith, f .count) in
-    let lost : take 16 (drop 26 b) ≡ j .lost = take-at (j .lost) rest 16 (f .size) in
+    let lost : take 16 (drop 26 b) ≡ j .lost = take-at (j .lost) rest 16 (f .lost .size) in
     let w = watch-shape (j .watch) in
-    simp (flag-small (j .opened), w .0, w .1, flag-again (j .opened), watch-again (j .watch), cycle-again j rest (f .previous), locked, count, lost)
+    simp (flag-small (j .opened), w .0, w .1, flag-again (j .opened), watch-again (j .watch), cycle-again j rest (f .inputs) (f .outputs), locked, count, lost)
 
 -- the parts of the test
 record Shape (b : List ℕ) : Type 0 where
@@ -179,7 +193,7 @@ head-again b w e =
     rw (flag-byte (getD b 1 0) (t .opened), p .0, p .1, locked .0, locked .1, count, eqb-true (getD b 7 0) 0 (t .spare))
 
 columns-again : (b : List ℕ) → Bytes b → cycleBytes (cycleIn b) ≡ slots b 12 14
-unfolding cycleBytes cycleIn
+unfolding cycleBytes inputBytes outputBytes cycleIn
 columns-again b w =
     let hbusreq = pair-again b 12 w in
     let hlock = pair-again b 14 w in

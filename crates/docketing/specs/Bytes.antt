@@ -22,6 +22,8 @@ use mathlib.Core.Bool.{Bool, _&&_, _||_, cond}
 use mathlib.Core.List.{List, [], _∷_, _++_}
 use lib.Dec.{eqb, leb}
 use lib.ListN.{getD, take, drop}
+use Rattle.rules.specs.declared.Inputs.{Inputs}
+use Rattle.rules.specs.declared.Outputs.{Outputs}
 use Rattle.rules.specs.declared.Cycle.{Cycle}
 use Rattle.rules.specs.Step.{flagOf}
 use Rattle.rulebook.specs.declared.Watch.{Watch}
@@ -51,17 +53,16 @@ headBytes j =
     ∷ (lowFirst 2 (j .locked) ++ (j .waited ∷ 0 ∷ lowFirst 4 (j .count)))
 
 -- the eleven columns, in the order of a trace line
+unfoldable pub inputBytes : Inputs → List ℕ
+inputBytes x =
+    lowFirst 2 (x .hbusreq) ++ (lowFirst 2 (x .hlock) ++ (x .hready ∷ x .htrans ∷ x .hburst ∷ []))
+
+unfoldable pub outputBytes : Outputs → List ℕ
+outputBytes o =
+    lowFirst 2 (o .hgrant) ++ (o .hmaster ∷ o .hmastlock ∷ o .decide ∷ o .granted ∷ o .busreq ∷ [])
+
 unfoldable pub cycleBytes : Cycle → List ℕ
-cycleBytes c =
-    lowFirst 2 (c .inputs .hbusreq)
-    ++ lowFirst 2 (c .inputs .hlock)
-    ++ (c .inputs .hready ∷ c .inputs .htrans ∷ c .inputs .hburst ∷ lowFirst 2 (c .outputs .hgrant))
-    ++ (c .outputs .hmaster
-    ∷ c .outputs .hmastlock
-    ∷ c .outputs .decide
-    ∷ c .outputs .granted
-    ∷ c .outputs .busreq
-    ∷ [])
+cycleBytes c = inputBytes (c .inputs) ++ outputBytes (c .outputs)
 
 unfoldable pub judgeBytes : Judge → List ℕ
 judgeBytes j = headBytes j ++ (cycleBytes (j .previous) ++ j .lost)

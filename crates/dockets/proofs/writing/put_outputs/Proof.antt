@@ -1,0 +1,77 @@
+-- `put_outputs` meets its contract: seven stores in a row.
+use native.Mathlib.Omega.{arith}
+use lib.ListN.{length-set}
+use Rattle.docketing.specs.Bytes.{outputBytes}
+use borrow.Author.Needs.{needs}
+use Rattle.dockets.proofs.writing.put_outputs.Statement.{statement}
+use Rattle.dockets.proofs.writing.put_outputs.Tie as tie
+
+cast-hmaster : tie.Need-cast-hmaster
+cast-hmaster c = search needs
+
+cast-hmastlock : tie.Need-cast-hmastlock
+cast-hmastlock c = search needs
+
+cast-decide : tie.Need-cast-decide
+cast-decide c = search needs
+
+cast-granted : tie.Need-cast-granted
+cast-granted c = search needs
+
+cast-busreq : tie.Need-cast-busreq
+cast-busreq c = search needs
+
+low-byte-requires : tie.Need-low-byte-requires
+low-byte-requires c κs = search needs
+
+slice-write-b : tie.Need-slice-write-b
+slice-write-b c = search needs
+
+low-byte-requires-2 : tie.Need-low-byte-requires-2
+low-byte-requires-2 c κs = search needs
+
+slice-write-b-2 : tie.Need-slice-write-b-2
+slice-write-b-2 c = simp length-set (omega arith)
+
+slice-write-b-3 : tie.Need-slice-write-b-3
+slice-write-b-3 c = simp length-set (omega arith)
+
+slice-write-b-4 : tie.Need-slice-write-b-4
+slice-write-b-4 c = simp length-set (omega arith)
+
+slice-write-b-5 : tie.Need-slice-write-b-5
+slice-write-b-5 c = simp length-set (omega arith)
+
+slice-write-b-6 : tie.Need-slice-write-b-6
+slice-write-b-6 c = simp length-set (omega arith)
+
+slice-write-b-7 : tie.Need-slice-write-b-7
+slice-write-b-7 c = simp length-set (omega arith)
+
+same-length : tie.Need-same-length
+same-length c = simp length-set
+
+returns : tie.Need-returns
+unfolding outputBytes
+returns c = cc
+
+pub put-outputs-spec : {M : Type 1} → statement M
+put-outputs-spec =
+    tie.close
+    (tie.spec
+    cast-hmaster
+    cast-hmastlock
+    cast-decide
+    cast-granted
+    cast-busreq
+    low-byte-requires
+    slice-write-b
+    low-byte-requires-2
+    slice-write-b-2
+    slice-write-b-3
+    slice-write-b-4
+    slice-write-b-5
+    slice-write-b-6
+    slice-write-b-7
+    same-length
+    returns)
