@@ -4,6 +4,7 @@
 --   recorded a .. k      == the recorded cycle whose eleven columns the caller passes as numbers
 --   maskSize             == the bytes of a mask of broken rules
 --   Ruling               == what a step comes to: the judge after the cycle and the mask, or a refusal
+--   rulingOf a           == what the answer a of the judge comes to
 --   judgeStep judge broken c == what a step of the lent bytes comes to; judgeNumber gives the number that it answers
 --   judgeStored j buffer, maskStored m buffer == a buffer that gets the judge j, or the mask m
 --   judgeAfter r buffer, brokenAfter r buffer == the two buffers after a step
@@ -51,9 +52,12 @@ abbrev pub ruledBy : Verdict → Judgement → Ruling
 ruledBy Taken a = taken (a .judge) (maskOf (a .charged))
 ruledBy (Refused r) a = refused r
 
+abbrev pub rulingOf : Judgement → Ruling
+rulingOf a = ruledBy (a .verdict) a
+
 -- 10 where the bytes are no judge; else as a step of that judge, which gives 10 where it is not well formed
 unfoldable pub ofDocket : Docket → Cycle → Ruling
-ofDocket (known j) c = ruledBy (judgeOf j c .verdict) (judgeOf j c)
+ofDocket (known j) c = rulingOf (judgeOf j c)
 ofDocket unknown c = refused StateRefusal
 
 unfoldable pub judgeStep : List ℕ → List ℕ → Cycle → Ruling

@@ -1,4 +1,6 @@
 // The step and the reset, exported to a C simulator. include/espigambre.h declares them for C.
+mod judge;
+
 use buses::Bus;
 use rules::Check;
 use rules::Cycle;
