@@ -1,21 +1,22 @@
 -- The ends of the two calls, over plain values: S and L are the lent buffers, S' and L' the same at exit.
 --
 --   unsound, sound  == what the bytes lead to: 10, or the step of the state that they write
---   formed, is-sound, has-room == of bytes that passed the tests
 --   refusal-10, refusal-8, refusal-none, refusal-of == the ends of finding the number
---   next-formed, took == what a cycle that was taken leaves
---   is-good         == a stimulus that passed
---   step-short-state, step-short-line, step-unready, step-invalid, step-taken == the ends of a step
+--   many, enters, enters-invalid, enters-unready == the ends of the tests of a step
+--   next-formed     == the state after a cycle is well formed
+--   step-short-state, step-short-shown, step-refused, step-taken == the ends of a step, whatever it shows
+--   small, outputs-size == the outputs as numbers
 --   ready-sound     == a reset that is not refused gives a well-formed state
 --   reset-short, reset-refused, reset-ready == the ends of a reset
 use Prim.Native.Nat.{ℕ, _≤_, _<_}
-use mathlib.Core.Path.{_≡_, refl, sym, _∙_}
+use mathlib.Core.Path.{_≡_, refl, sym, _∙_, ap}
 use mathlib.Core.Bool.{Bool, true, false, not, _&&_, false≢true, true≢false}
-use mathlib.Core.List.{List}
+use mathlib.Core.List.{List, _++_}
+use native.Mathlib.Nat.{zero-add}
 use native.Mathlib.Omega.{arith}
 use borrow.Author.Tests.{ltb-true, ltb-false, not-true, not-false}
 use lib.Dec.{ltb}
-use lib.ListN.{length}
+use lib.ListN.{length, drop}
 use lib.Seq.{sets, sets-eq}
 use Rattle.rules.specs.declared.Refusal.{Refusal}
 use Rattle.rules.specs.declared.Refusal.the-variants as refusal
@@ -37,18 +38,20 @@ use Rattle.rules.proofs.WellFormed.{facts-of, test-of, reset-is, reset-sound}
 use Rattle.rules.proofs.Total.{never-refused}
 use Rattle.rules.proofs.Taken.{taken}
 use Rattle.rules.proofs.Kept.{kept}
-use Rattle.formats.specs.Lines.{traceLine}
 use Rattle.arbitration.proofs.Close.{malformed, full, bad}
+use Rattle.buses.specs.declared.Bus.{Bus}
 use Rattle.buses.specs.Buses.{stateFrom}
 use Rattle.hosting.specs.declared.Lent.the-variants.{Known}
 use Rattle.hosting.specs.declared.Outcome.{Outcome}
 use Rattle.hosting.specs.declared.Outcome.the-variants.{Refused}
 use Rattle.hosting.specs.Bytes.{isState, stateIn, bytesState}
-use Rattle.hosting.specs.Calls.{ofAnswer, ofLent, hostNumber, hostState, hostLine, hostStep, hostReset, stateStored, lineStored, StepCall, ResetCall}
-use Rattle.hosting.proofs.Calls.{short-state, short-line, short-reset, plain-reset, long-enough, refused-unchanged}
+use Rattle.hosting.specs.Calls.{outputBytes, Display, ofAnswer, ofLent, hostNumber, hostStep, hostReset, stateStored, cycleStored, StepCall, ResetCall}
+use Rattle.hosting.proofs.Calls.{short-state, short-shown, short-reset, plain-reset, long-enough, refused-unchanged}
 use Rattle.octets.specs.declared.Held.{Held}
 use Rattle.octets.specs.Octets.{soundIn, Holds}
+use Rattle.glances.specs.Glances.{Driven}
 use Rattle.host.specs.Tests.{passes}
+use Rattle.host.specs.Entry.{Enters, Took, Small}
 
 -- a refusal's number is not 0
 some : (r : Refusal) → 1 ≤ numberOf r
@@ -64,11 +67,11 @@ some refusal.Short = omega arith
 some refusal.State = omega arith
 some refusal.Nobody = omega arith
 
-pub step-short-state : (S L : List ℕ) (x : Inputs) → length S < 12 → StepCall x S L 9 S L
-step-short-state S L x h = let e = short-state S L x h in (rw e, rw e, rw e)
+pub step-short-state : (d : Display) (S L : List ℕ) (x : Inputs) → length S < 12 → StepCall d x S L 9 S L
+step-short-state d S L x h = let e = short-state d S L x h in (rw e, rw e, rw e)
 
-pub step-short-line : (S L : List ℕ) (x : Inputs) → 12 ≤ length S → length L < 31 → StepCall x S L 9 S L
-step-short-line S L x h k = let e = short-line S L x h k in (rw e, rw e, rw e)
+pub step-short-shown : (d : Display) (S L : List ℕ) (x : Inputs) → 12 ≤ length S → length L < d .size → StepCall d x S L 9 S L
+step-short-shown d S L x h k = let e = short-shown d S L x h k in (rw e, rw e, rw e)
 
 -- bytes that no well-formed state has
 unsound : (S : List ℕ) (x : Inputs) → soundIn S ≡ false → ofLent (bytesState S) x ≡ Refused refusal.State
@@ -93,6 +96,10 @@ sound S e =
     let p = and-left (isState S) (wellFormed (stateIn S)) e in
     record { known = rw p; formed = facts-of (stateIn S) (and-right (isState S) (wellFormed (stateIn S)) e) }
 
+is-good : (c : Check) (v : Bool) → v ≡ passes c → v ≡ true → c ≡ Good
+is-good Good v e f = refl
+is-good (Bad r) v e f = absurd (false≢true (sym e ∙ f))
+
 -- h is what is seen of S
 module _ (S : List ℕ) (h : Held) (w : Holds S h) where
   abbrev here : State
@@ -100,16 +107,6 @@ module _ (S : List ℕ) (h : Held) (w : Holds S h) where
 
   pub formed : h .sound ≡ true → WellFormed here
   formed e = rw (w .known e) (sound S (sym (w .exact) ∙ e) .formed)
-
-  module _ (ready : not (h .sound && ltb (h .bus .count) 1000000) ≡ false) where
-    both : (h .sound && ltb (h .bus .count) 1000000) ≡ true
-    both = not-false (h .sound && ltb (h .bus .count) 1000000) ready
-
-    pub is-sound : h .sound ≡ true
-    is-sound = and-left (h .sound) (ltb (h .bus .count) 1000000) both
-
-    pub has-room : h .bus .count < mostCycles
-    has-room = ltb-true (h .bus .count) 1000000 (and-right (h .sound) (ltb (h .bus .count) 1000000) both)
 
   module _ (x : Inputs) where
     abbrev outcome : Outcome
@@ -139,61 +136,78 @@ module _ (S : List ℕ) (h : Held) (w : Holds S h) where
       pub refusal-of : (r : Refusal) (k : ℕ) → c ≡ Bad r → k ≡ numberOf r → k ≡ hostNumber outcome
       refusal-of r k f g = let q = bad here x c r (formed p) room e f in rw (stepped p, ← q) g
 
-    -- a call that is not taken answers another number than 0
-    unready : not (h .sound && ltb (h .bus .count) 1000000) ≡ true → 1 ≤ hostNumber outcome
+    -- where the tests of a step are not all passed, another number than 0 is answered
+    unready : (h .sound && ltb (h .bus .count) 1000000) ≡ false → 1 ≤ hostNumber outcome
     unready e = go (h .sound) refl
       where
         go : (t : Bool) → h .sound ≡ t → 1 ≤ hostNumber outcome
         go true p =
-            let f : not (true && ltb (h .bus .count) 1000000) ≡ true = rw p at e in
-            let q = refusal-8 (rw p) (ltb-false (h .bus .count) 1000000 (not-true (ltb (h .bus .count) 1000000) f)) in
+            let f : (true && ltb (h .bus .count) 1000000) ≡ false = rw p at e in
+            let q = refusal-8 (rw p) (ltb-false (h .bus .count) 1000000 f) in
             omega (arith, q)
         go false p = let q = refusal-10 (rw p) in omega (arith, q)
 
-    invalid : h .sound ≡ true → h .bus .count < mostCycles → passes (inputsCheck (h .n) x) ≡ false → 1 ≤ hostNumber outcome
-    invalid p room e = go (inputsCheck (h .n) x) refl
-      where
-        go : (c : Check) → inputsCheck (h .n) x ≡ c → 1 ≤ hostNumber outcome
-        go Good q = absurd (true≢false (rw q at e))
-        go (Bad r) q = let k = refusal-of p room (Bad r) (sym q) r (numberOf r) refl refl in omega (arith, some r, k)
+    module _ (left : not (h .sound && ltb (h .bus .count) 1000000) ≡ false) where
+      ready : (h .sound && ltb (h .bus .count) 1000000) ≡ true
+      ready = not-false (h .sound && ltb (h .bus .count) 1000000) left
 
-    -- both buffers are long enough
-    module _ (L : List ℕ) (room : 12 ≤ length S) (space : 31 ≤ length L) where
-      whole : hostStep S L x ≡ outcome
-      whole = long-enough S L x room space
+      is-sound : h .sound ≡ true
+      is-sound = and-left (h .sound) (ltb (h .bus .count) 1000000) ready
 
-      unchanged : (r : ℕ) → r ≡ hostNumber outcome → 1 ≤ hostNumber outcome → StepCall x S L r S L
-      unchanged r e k = let u = refused-unchanged outcome S L k in rw whole (e, sym (u .0), sym (u .1))
+      has-room : h .bus .count < mostCycles
+      has-room = ltb-true (h .bus .count) 1000000 (and-right (h .sound) (ltb (h .bus .count) 1000000) ready)
 
-      pub step-unready : (r : ℕ) → not (h .sound && ltb (h .bus .count) 1000000) ≡ true → r ≡ hostNumber outcome → StepCall x S L r S L
-      step-unready r e q = unchanged r q (unready e)
+      pub many : h .n ≤ 16
+      many = formed is-sound .many
 
-      module _ (ready : not (h .sound && ltb (h .bus .count) 1000000) ≡ false) where
-        pub step-invalid : (v : Bool) (r : ℕ) → v ≡ passes (inputsCheck (h .n) x) → not v ≡ true → r ≡ hostNumber outcome → StepCall x S L r S L
-        step-invalid v r e f q = unchanged r q (invalid (is-sound ready) (has-room ready) (sym e ∙ not-true v f))
+      invalid : passes (inputsCheck (h .n) x) ≡ false → 1 ≤ hostNumber outcome
+      invalid e = go (inputsCheck (h .n) x) refl
+        where
+          go : (c : Check) → inputsCheck (h .n) x ≡ c → 1 ≤ hostNumber outcome
+          go Good q = absurd (true≢false (rw q at e))
+          go (Bad r) q = let k = refusal-of is-sound has-room (Bad r) (sym q) r (numberOf r) refl refl in omega (arith, some r, k)
 
-        pub step-taken : (S' L' : List ℕ) → inputsCheck (h .n) x ≡ Good
-            → (S' ≡ hostState (ofAnswer (stepOf here x) x) S) × (L' ≡ hostLine (ofAnswer (stepOf here x) x) L) → StepCall x S L 0 S' L'
-        step-taken S' L' good left =
-            let p = is-sound ready in
-            let k = refusal-none p (has-room ready) Good (sym good) refl in
-            rw whole (k, rw (stepped p) (left .0), rw (stepped p) (left .1))
+      pub enters : (v : Bool) → v ≡ passes (inputsCheck (h .n) x) → not v ≡ false → Enters S x 0 (h .n) (h .bus)
+      enters v e f =
+          let good = is-good (inputsCheck (h .n) x) v e (not-false v f) in
+          let s = sound S (sym (w .exact) ∙ is-sound) in
+          record {
+            number = refusal-none is-sound has-room Good (sym good) refl;
+            ready = λ z.
+                record {
+                  known = s .known ∙ ap Known (sym (w .known is-sound));
+                  takes = record { formed = formed is-sound; fit = w .fit; room = has-room; good = good };
+                };
+          }
+
+      pub enters-invalid : (v : Bool) (r : ℕ) → v ≡ passes (inputsCheck (h .n) x) → not v ≡ true → r ≡ hostNumber outcome → Enters S x r (h .n) (h .bus)
+      enters-invalid v r e f q =
+          record { number = q; ready = λ z. let k = invalid (sym e ∙ not-true v f) in absurd (omega (arith, k, q, z)) }
+
+    pub enters-unready : (r : ℕ) → not (h .sound && ltb (h .bus .count) 1000000) ≡ true → r ≡ hostNumber outcome → Enters S x r (h .n) (h .bus)
+    enters-unready r e q = record { number = q; ready = λ z. let k = unready (not-true (h .sound && ltb (h .bus .count) 1000000) e) in absurd (omega (arith, k, q, z)) }
 
 -- what a cycle that was taken leaves
-module _ (s t : State) (x : Inputs) (o : Outputs) (e : stepOf s x ≡ Next t o) where
-  pub next-formed : WellFormed t
-  next-formed = kept s x t o (taken s x t o e)
+pub next-formed : (s t : State) (x : Inputs) (o : Outputs) → stepOf s x ≡ Next t o → WellFormed t
+next-formed s t x o e = kept s x t o (taken s x t o e)
 
-  pub took : (S L S' L' : List ℕ) → 31 ≤ length L → S' ≡ stateStored t S → L' ≡ sets L 0 (traceLine (record { inputs = x; outputs = o }))
-      → (S' ≡ hostState (ofAnswer (stepOf s x) x) S) × (L' ≡ hostLine (ofAnswer (stepOf s x) x) L)
-  unfolding lineStored
-  took S L S' L' space es el =
-      let line = traceLine (record { inputs = x; outputs = o }) in
-      (rw e es, rw e (el ∙ sets-eq line L 0 space))
+-- the ends of a step that has entered
+module _ (d : Display) (S L : List ℕ) (x : Inputs) (room : 12 ≤ length S) (space : d .size ≤ length L) (r n : ℕ) (b : Bus) (e : Enters S x r n b) where
+  whole : hostStep d S L x ≡ ofLent (bytesState S) x
+  whole = long-enough d S L x room space
 
-pub is-good : (c : Check) (v : Bool) → v ≡ passes c → not v ≡ false → c ≡ Good
-is-good Good v e f = refl
-is-good (Bad r) v e f = absurd (false≢true (sym e ∙ not-false v f))
+  pub step-refused : (r ≡ 0 → ⊥) → StepCall d x S L r S L
+  step-refused z =
+      let u = refused-unchanged d (ofLent (bytesState S) x) S L (omega (arith, e .number, z)) in
+      rw whole (e .number, sym (u .0), sym (u .1))
+
+  pub step-taken : (S' L' : List ℕ) (o : Outputs) → r ≡ 0 → Took n b x o S S' → length (d .bytes (record { inputs = x; outputs = o })) ≡ d .size
+      → L' ≡ sets L 0 (d .bytes (record { inputs = x; outputs = o })) → StepCall d x S L 0 S' L'
+  unfolding ofLent cycleStored
+  step-taken S' L' o z t size el =
+      let text = d .bytes (record { inputs = x; outputs = o }) in
+      let shown : L' ≡ text ++ drop (d .size) L = el ∙ sets-eq text L 0 (omega (arith, size)) ∙ ap (λ (k : ℕ). text ++ drop k L) (zero-add (length text) ∙ size) in
+      rw (whole, e .ready z .known, t .stepped) (refl, t .stored, shown)
 
 pub ready-sound : (n : ℕ) (a : Start) (s : State) → a ≡ resetOf n → a ≡ Ready s → WellFormed s
 ready-sound n a s e f =
@@ -213,3 +227,17 @@ module _ (n : ℕ) (S : List ℕ) (room : 12 ≤ length S) (a : Start) (is : a �
   -- t is the same state, by its numbers
   pub reset-ready : (s t : State) (S' : List ℕ) → a ≡ Ready s → t ≡ s → S' ≡ stateStored t S → ResetCall n S 0 S'
   reset-ready s t S' e f p = let u = begun ∙ e in (rw u, rw (u, ← f) p)
+
+pub small : (g : ℕ) (o : Outputs) → Driven g o → Small o
+small g o d =
+    record {
+      hmaster = omega (arith, d .owner);
+      hmastlock = omega (arith, d .lock);
+      decide = omega (arith, d .decide);
+      granted = omega (arith, d .granted);
+      busreq = omega (arith, d .request);
+    }
+
+pub outputs-size : (o : Outputs) → length (outputBytes o) ≡ 8
+unfolding outputBytes
+outputs-size o = refl

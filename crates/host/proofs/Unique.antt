@@ -5,23 +5,32 @@ use mathlib.Core.Path.{_≡_}
 use mathlib.Core.List.{List}
 use contract.Lifetimes.{Lfts}
 use denote.Ref.{RefT, now}
-use Rattle.hosting.specs.Calls.{lent}
+use Rattle.hosting.specs.Calls.{lent, asLine, asNumbers}
 use Rattle.hosting.proofs.Calls.{step-call-unique, reset-call-unique}
 use Rattle.host.proofs.espigambre_step.Reads as step
+use Rattle.host.proofs.espigambre_step_outputs.Reads as outputs
 use Rattle.host.proofs.espigambre_reset.Reads as reset
 
 abbrev Buffer : Type 0
 Buffer = RefT (List ℕ)
 
-module _ (κs : Lfts 2) (hbusreq hlock hready htrans hburst : ℕ) (state line : Buffer) where
+module _ (κs : Lfts 2) (hbusreq hlock hready htrans hburst : ℕ) (state shown : Buffer) where
   -- the answer r, with the two buffers at exit
   abbrev StepMeets : ℕ → Buffer → Buffer → Type 0
-  StepMeets r state' line' =
-      step.Post κs (hbusreq, (hlock, (hready, (htrans, (hburst, (state, (line, tt))))))) r (hbusreq, (hlock, (hready, (htrans, (hburst, (state', (line', tt)))))))
+  StepMeets r state' shown' =
+      step.Post κs (hbusreq, (hlock, (hready, (htrans, (hburst, (state, (shown, tt))))))) r (hbusreq, (hlock, (hready, (htrans, (hburst, (state', (shown', tt)))))))
+
+  abbrev OutputsMeets : ℕ → Buffer → Buffer → Type 0
+  OutputsMeets r state' shown' =
+      outputs.Post κs (hbusreq, (hlock, (hready, (htrans, (hburst, (state, (shown, tt))))))) r (hbusreq, (hlock, (hready, (htrans, (hburst, (state', (shown', tt)))))))
 
   pub step-unique : (r r' : ℕ) (s s' l l' : Buffer) → StepMeets r s l → StepMeets r' s' l' → (r ≡ r') × (now s ≡ now s') × (now l ≡ now l')
   step-unique r r' s s' l l' p q =
-      step-call-unique (lent hbusreq hlock hready htrans hburst) (now state) (now line) r r' (now s) (now s') (now l) (now l') p q
+      step-call-unique asLine (lent hbusreq hlock hready htrans hburst) (now state) (now shown) r r' (now s) (now s') (now l) (now l') p q
+
+  pub outputs-unique : (r r' : ℕ) (s s' l l' : Buffer) → OutputsMeets r s l → OutputsMeets r' s' l' → (r ≡ r') × (now s ≡ now s') × (now l ≡ now l')
+  outputs-unique r r' s s' l l' p q =
+      step-call-unique asNumbers (lent hbusreq hlock hready htrans hburst) (now state) (now shown) r r' (now s) (now s') (now l) (now l') p q
 
 module _ (κs : Lfts 1) (n : ℕ) (state : Buffer) where
   abbrev ResetMeets : ℕ → Buffer → Type 0

@@ -5,19 +5,17 @@ use buses::Bus;
 use rules::Check;
 use rules::Cycle;
 use rules::Inputs;
+use rules::Outputs;
 use rules::Start;
 ghost use mathlib.Core.Path.{_≡_};
-ghost use Prim.Native.Nat.{_≤_, _<_};
+ghost use Prim.Native.Nat.{_≤_};
 ghost use lib.ListN.{length};
-ghost use Rattle.rules.specs.declared.Check.the-variants.{Good};
-ghost use Rattle.rules.specs.Codes.{mostCycles};
+ghost use lib.Seq.{sets};
 ghost use Rattle.rules.specs.Valid.{inputsCheck};
-ghost use Rattle.rules.specs.State.{WellFormed};
-ghost use Rattle.rules.specs.Step.{stepOf};
-ghost use Rattle.buses.specs.Buses.{stateFrom, Fit};
 ghost use Rattle.hosting.specs.Bytes.{bytesState};
-ghost use Rattle.hosting.specs.Calls.{lent, ofAnswer, ofLent, hostNumber, hostState, hostLine, StepCall, ResetCall};
+ghost use Rattle.hosting.specs.Calls.{lent, outputBytes, asLine, asNumbers, ofLent, hostNumber, StepCall, ResetCall};
 ghost use Rattle.host.specs.Tests.{passes};
+ghost use Rattle.host.specs.Entry.{Takes, Enters, Took, Small};
 
 // Whether a stimulus is valid for n, with few tests.
 fn valid(n: u32, x: Inputs) -> bool
@@ -33,9 +31,9 @@ fn valid(n: u32, x: Inputs) -> bool
 }
 
 // The number that a step of the bytes answers: that of its refusal, 10, 8, 4, 5 or 6.
-fn refusal(b: &[u8], hbusreq: u32, hlock: u32, hready: u32, htrans: u32, hburst: u32) -> u32
+fn refusal(b: &[u8], x: Inputs) -> u32
     requires { ⌜ 12 ≤ length (now b) ⌝ }
-    ensures { λ r. ⌜ r ≡ hostNumber (ofLent (bytesState (now (b .entry))) (lent hbusreq hlock hready htrans hburst)) ⌝ }
+    ensures { λ r. ⌜ r ≡ hostNumber (ofLent (bytesState (now (b .entry))) x) ⌝ }
 {
     let held = octets::see(b);
     let s = held.bus;
@@ -45,30 +43,56 @@ fn refusal(b: &[u8], hbusreq: u32, hlock: u32, hready: u32, htrans: u32, hburst:
     if 1000000 <= s.count {
         return 8;
     }
-    let x = Inputs {
-        hbusreq,
-        hlock,
-        hready,
-        htrans,
-        hburst,
-    };
     match signals::check_inputs(held.n, x) {
         Check::Good => 0,
         Check::Bad(r) => signals::number(r),
     }
 }
 
-// A cycle that a step takes: the bytes of the state and of the line after it.
-fn take(n: u32, b: Bus, x: Inputs, state: &mut [u8], line: &mut [u8])
-    requires { ⌜ WellFormed (stateFrom n b) × Fit b × (b .count < mostCycles) × (inputsCheck n x ≡ Good) × (12 ≤ length (now state)) × (31 ≤ length (now line)) ⌝ }
-    ensures { λ _. ⌜ (now (state .exit) ≡ hostState (ofAnswer (stepOf (stateFrom n b) x) x) (now (state .entry))) × (now (line .exit) ≡ hostLine (ofAnswer (stepOf (stateFrom n b) x) x) (now (line .entry))) ⌝ }
+// What a step comes to before it is taken: its number, and where that is 0 the state in plain numbers.
+struct Entry {
+    answer: u32,
+    n: u32,
+    bus: Bus,
+}
+
+// The tests of a step but for 9, in few tests where all are passed.
+fn enter(state: &[u8], x: Inputs) -> Entry
+    requires { ⌜ 12 ≤ length (now state) ⌝ }
+    ensures { λ r. ⌜ Enters (now (state .entry)) x (r .answer) (r .n) (r .bus) ⌝ }
+{
+    let held = octets::see(state);
+    let bus = held.bus;
+    if !(held.sound & (bus.count < 1000000)) {
+        return Entry {
+            answer: refusal(state, x),
+            n: held.n,
+            bus,
+        };
+    }
+    if !valid(held.n, x) {
+        return Entry {
+            answer: refusal(state, x),
+            n: held.n,
+            bus,
+        };
+    }
+    Entry {
+        answer: 0,
+        n: held.n,
+        bus,
+    }
+}
+
+// A cycle that a step takes: the bytes of the state after it, and what was shown in it.
+fn take(n: u32, b: Bus, x: Inputs, state: &mut [u8]) -> Outputs
+    requires { ⌜ Takes n b x × (12 ≤ length (now state)) ⌝ }
+    ensures { λ o. ⌜ Took n b x o (now (state .entry)) (now (state .exit)) ⌝ }
 {
     let went = buses::advance(n, b, x);
     let after = went.bus;
-    let outputs = went.outputs;
-    let c = Cycle { inputs: x, outputs };
     octets::put(n, after, state);
-    prints::put_line(b.g, c, line);
+    went.outputs
 }
 
 // One cycle of the state in the lent bytes: 9, then as a step. The line of the cycle goes to the second buffer.
@@ -82,18 +106,13 @@ pub extern "C" fn espigambre_step(
     state: &mut [u8],
     line: &mut [u8],
 ) -> u32
-    ensures { λ r. ⌜ StepCall (lent hbusreq hlock hready htrans hburst) (now (state .entry)) (now (line .entry)) r (now (state .exit)) (now (line .exit)) ⌝ }
+    ensures { λ r. ⌜ StepCall asLine (lent hbusreq hlock hready htrans hburst) (now (state .entry)) (now (line .entry)) r (now (state .exit)) (now (line .exit)) ⌝ }
 {
     if state.len() < 12 {
         return 9;
     }
     if line.len() < 31 {
         return 9;
-    }
-    let held = octets::see(state);
-    let b = held.bus;
-    if !(held.sound & (b.count < 1000000)) {
-        return refusal(state, hbusreq, hlock, hready, htrans, hburst);
     }
     let x = Inputs {
         hbusreq,
@@ -102,10 +121,65 @@ pub extern "C" fn espigambre_step(
         htrans,
         hburst,
     };
-    if !valid(held.n, x) {
-        return refusal(state, hbusreq, hlock, hready, htrans, hburst);
+    let e = enter(state, x);
+    if e.answer != 0 {
+        return e.answer;
     }
-    take(held.n, b, x, state, line);
+    let b = e.bus;
+    let outputs = take(e.n, b, x, state);
+    let c = Cycle { inputs: x, outputs };
+    prints::put_line(b.g, c, line);
+    0
+}
+
+// Writes the outputs of a cycle as numbers.
+fn put_numbers(o: Outputs, shown: &mut [u8])
+    requires { ⌜ (8 ≤ length (now shown)) × Small o ⌝ }
+    ensures { λ _. ⌜ now (shown .exit) ≡ sets (now (shown .entry)) 0 (outputBytes o) ⌝ }
+{
+    shown[0] = (o.hgrant % 256) as u8;
+    shown[1] = (o.hgrant / 256 % 256) as u8;
+    shown[2] = o.hmaster as u8;
+    shown[3] = o.hmastlock as u8;
+    shown[4] = o.decide as u8;
+    shown[5] = o.granted as u8;
+    shown[6] = o.busreq as u8;
+    shown[7] = 0;
+}
+
+// The same with the outputs of the cycle as numbers in the second buffer.
+#[no_mangle]
+pub extern "C" fn espigambre_step_outputs(
+    hbusreq: u32,
+    hlock: u32,
+    hready: u32,
+    htrans: u32,
+    hburst: u32,
+    state: &mut [u8],
+    outputs: &mut [u8],
+) -> u32
+    ensures { λ r. ⌜ StepCall asNumbers (lent hbusreq hlock hready htrans hburst) (now (state .entry)) (now (outputs .entry)) r (now (state .exit)) (now (outputs .exit)) ⌝ }
+{
+    if state.len() < 12 {
+        return 9;
+    }
+    if outputs.len() < 8 {
+        return 9;
+    }
+    let x = Inputs {
+        hbusreq,
+        hlock,
+        hready,
+        htrans,
+        hburst,
+    };
+    let e = enter(state, x);
+    if e.answer != 0 {
+        return e.answer;
+    }
+    let b = e.bus;
+    let o = take(e.n, b, x, state);
+    put_numbers(o, outputs);
     0
 }
 

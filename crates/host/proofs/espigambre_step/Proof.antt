@@ -1,62 +1,60 @@
--- `espigambre_step` meets its contract: 9 twice, then the three ends of the step.
-use Rattle.host.proofs.Close.{step-short-state, step-short-line, formed, is-sound, has-room, is-good, step-unready, step-invalid, step-taken}
+-- `espigambre_step` meets its contract: 9 twice, then a refusal or the cycle that is taken.
+use mathlib.Core.Path.{refl}
 use borrow.Author.Needs.{needs}
+use Rattle.hosting.specs.Calls.{asLine}
+use Rattle.glances.proofs.Shown.{driven}
+use Rattle.host.proofs.Inputs.{fits-of}
+use Rattle.host.proofs.Close.{step-short-state, step-short-shown, step-refused, step-taken}
 use Rattle.host.proofs.espigambre_step.Statement.{statement}
 use Rattle.host.proofs.espigambre_step.Tie as tie
 
 returns : tie.Need-returns
-returns c = step-short-state _ _ _ (c .if1 .taken)
+returns c = step-short-state asLine _ _ _ (c .if1 .taken)
 
 returns-2 : tie.Need-returns-2
-returns-2 c = step-short-line _ _ _ (c .before .if1 .left) (c .if2 .taken)
+returns-2 c = step-short-shown asLine _ _ _ (c .before .if1 .left) (c .if2 .taken)
 
-see-requires : tie.Need-see-requires
-see-requires c κs = search needs
-
-refusal-requires : tie.Need-refusal-requires
-refusal-requires c κs = search needs
+enter-requires : tie.Need-enter-requires
+enter-requires c κs = search needs
 
 same-length : tie.Need-same-length
 same-length c = search needs
 
 returns-3 : tie.Need-returns-3
-returns-3 c = let t = c .before .before in let s = t .before .before .before .before in let e = s .before .before in
-    step-unready _ _ (s .see .ensures) _ _ (e .before .if1 .left) (e .if2 .left) _ (t .if3 .taken) (c .refusal .ensures)
+returns-3 c =
+    let e = c .before .before in
+    let g = e .before .before in
+    step-refused asLine _ _ _ (g .before .if1 .left) (g .if2 .left) _ _ _ (e .enter .ensures) (c .if3 .taken)
 
-valid-requires : tie.Need-valid-requires
-valid-requires c κs = let s = c .before .before .before .before in
-    formed _ _ (s .see .ensures) (is-sound _ _ (s .see .ensures) (c .if3 .left)) .many
+take-requires : tie.Need-take-requires
+take-requires c κs =
+    let z = c .before .before in
+    let e = z .before .before in
+    let g = e .before .before in
+    (e .enter .ensures .ready (z .if3 .left) .takes, g .before .if1 .left)
 
-refusal-requires-2 : tie.Need-refusal-requires-2
-refusal-requires-2 c κs = search needs
+put-line-requires : tie.Need-put-line-requires
+put-line-requires c κs =
+    let t = c .before .before .before in
+    let z = t .before .before .before in
+    let e = z .before .before in
+    let k = e .enter .ensures .ready (z .if3 .left) .takes in
+    (e .before .before .if2 .left, fits-of _ _ (k .formed .many) (k .good), driven _ _ _ _ (t .take .ensures .stepped))
 
 same-length-2 : tie.Need-same-length-2
 same-length-2 c = search needs
 
-returns-4 : tie.Need-returns-4
-returns-4 c = let t = c .before .before in let v = t .before in let g = v .before in let s = g .before .before .before .before in let e = s .before .before in
-    step-invalid _ _ (s .see .ensures) _ _ (e .before .if1 .left) (e .if2 .left) (g .if3 .left) _ _ (v .valid .ensures) (t .if4 .taken) (c .refusal2 .ensures)
-
-take-requires : tie.Need-take-requires
-take-requires c κs = let t = c .before .before in let v = t .before in let g = v .before in let s = g .before .before .before .before in let e = s .before .before in (
-  formed _ _ (s .see .ensures) (is-sound _ _ (s .see .ensures) (g .if3 .left)),
-  s .see .ensures .fit,
-  has-room _ _ (s .see .ensures) (g .if3 .left),
-  is-good _ _ (v .valid .ensures) (t .if4 .left),
-  e .before .if1 .left,
-  e .if2 .left,
-)
-
 same-length-3 : tie.Need-same-length-3
 same-length-3 c = search needs
 
-same-length-4 : tie.Need-same-length-4
-same-length-4 c = search needs
-
-returns-5 : tie.Need-returns-5
-returns-5 c = let k = c .before .before .before .before in let t = k .before .before .before in let v = t .before in let g = v .before in
-    let s = g .before .before .before .before in let e = s .before .before in
-    step-taken _ _ (s .see .ensures) _ _ (e .before .if1 .left) (e .if2 .left) (g .if3 .left) _ _ (is-good _ _ (v .valid .ensures) (t .if4 .left)) (k .take .ensures)
+returns-4 : tie.Need-returns-4
+returns-4 c =
+    let w = c .before .before in
+    let t = w .before .before .before .before in
+    let z = t .before .before .before in
+    let e = z .before .before in
+    let g = e .before .before in
+    step-taken asLine _ _ _ (g .before .if1 .left) (g .if2 .left) _ _ _ (e .enter .ensures) _ _ _ (z .if3 .left) (t .take .ensures) (refl) (w .put-line .ensures)
 
 pub espigambre-step-spec : {M : Type 1} → statement M
 espigambre-step-spec =
@@ -64,15 +62,11 @@ espigambre-step-spec =
     (tie.spec
     returns
     returns-2
-    see-requires
-    refusal-requires
+    enter-requires
     same-length
     returns-3
-    valid-requires
-    refusal-requires-2
-    same-length-2
-    returns-4
     take-requires
+    put-line-requires
+    same-length-2
     same-length-3
-    same-length-4
-    returns-5)
+    returns-4)

@@ -1,33 +1,24 @@
--- `take` meets its contract: the step, and the bytes of what follows.
-use Rattle.glances.proofs.Shown.{driven}
-use Rattle.host.proofs.Inputs.{fits-of}
-use Rattle.host.proofs.Close.{next-formed, took}
+-- `take` meets its contract: the step, and the bytes of the state that follows.
 use borrow.Author.Needs.{needs}
+use Rattle.host.proofs.Close.{next-formed}
 use Rattle.host.proofs.take.Statement.{statement}
 use Rattle.host.proofs.take.Tie as tie
 
 advance-requires : tie.Need-advance-requires
-advance-requires c κs = search needs
+advance-requires c κs = let t = c .before .pre .0 in (t .formed, t .fit, t .room, t .good)
 
 put-requires : tie.Need-put-requires
-put-requires c κs = let a = c .before .before .before in let p = a .before .before .before .pre in
-    (next-formed _ _ _ _ (a .advance .ensures .0), a .advance .ensures .1, p .4)
-
-put-line-requires : tie.Need-put-line-requires
-put-line-requires c κs = let a = c .before .before .before .before .before .before .before in let p = a .before .before .before .pre in
-    (p .5, fits-of _ _ (p .0 .many) (p .3), driven _ _ _ _ (a .advance .ensures .0))
+put-requires c κs =
+    let a = c .before .before in
+    (next-formed _ _ _ _ (a .advance .ensures .0), a .advance .ensures .1, a .before .before .pre .1)
 
 same-length : tie.Need-same-length
 same-length c = search needs
 
-same-length-2 : tie.Need-same-length-2
-same-length-2 c = search needs
-
 returns : tie.Need-returns
-returns c = let l = c .before .before in let s = l .before .before .before .before in let a = s .before .before .before .before in let k = a .before .before .before in
-    took _ _ _ _ (a .advance .ensures .0) (k .args .state .now) (k .args .line .now) _ _ (k .pre .5) (s .put .ensures) (l .put-line .ensures)
+returns c =
+    let p = c .before .before .before in
+    record { next = _; stepped = p .before .before .before .advance .ensures .0; stored = p .put .ensures }
 
 pub take-spec : {M : Type 1} → statement M
-take-spec =
-    tie.close
-    (tie.spec advance-requires put-requires put-line-requires same-length same-length-2 returns)
+take-spec = tie.close (tie.spec advance-requires put-requires same-length returns)
