@@ -2,19 +2,18 @@
 --
 --   judge-fits   == a well-formed judge fits its bytes
 use Prim.Native.Nat.{ℕ, zero, suc, _+_, _/_, _%_, _≤_, _<_}
-use mathlib.Core.Path.{_≡_, refl, sym, _∙_, ap}
+use mathlib.Core.Path.{_≡_, refl, sym, _∙_}
 use mathlib.Core.Bool.{Bool, true, false, _||_}
 use mathlib.Core.List.{List, [], _∷_, _++_}
 use native.Mathlib.Omega.{arith}
 use borrow.Author.Tests.{leb-true, leb-false, le-leb, eqb-true}
 use lib.Dec.{eqb, leb}
-use lib.ListN.{length, getD, take, drop, length-append, List·getD-eq-default}
+use lib.ListN.{length, getD, take, drop, List·getD-eq-default}
 use lib.Seq.{take-at, take-add, drop-drop}
 use Rattle.rules.specs.declared.Check.the-variants.{Good}
 use Rattle.rules.specs.declared.Inputs.{Inputs}
 use Rattle.rules.specs.declared.Outputs.{Outputs}
 use Rattle.rules.specs.declared.Cycle.{Cycle}
-use Rattle.rules.specs.Codes.{mostMasters}
 use Rattle.rules.specs.Valid.{inputsTooLarge, outputsTooLarge, cycleCheck}
 use Rattle.rules.specs.Step.{flagOf}
 use Rattle.rules.proofs.Choice.{order, and-left, and-right, or-left, or-right}
@@ -28,9 +27,9 @@ use Rattle.rulebook.specs.Kept.{Sound}
 use Rattle.formats.proofs.Limits.{inputs-small, outputs-small}
 use Rattle.words.specs.Words.{lowFirst, numberLow}
 use Rattle.words.proofs.Words.{Bytes, none-bytes, one-more, slots, slots-take, number-bytes, bytes-of-number}
-use Rattle.docketing.specs.Bytes.{judgeSize, watchByte, leftByte, headBytes, inputBytes, outputBytes, cycleBytes, judgeBytes, watchOf, isJudge, cycleIn, judgeIn, known, unknown, bytesJudge}
+use Rattle.docketing.specs.Bytes.{judgeSize, watchByte, leftByte, headOf, headBytes, inputBytes, outputBytes, cycleBytes, judgeBytes, watchOf, isJudge, cycleIn, judgeIn, bytesJudge}
 use Rattle.docketing.specs.Fits.{InputsFit, OutputsFit, JudgeFits}
-use Rattle.docketing.specs.Promises.{AreBytes, HasItsBytes, ReadAgain, WrittenAgain, OneJudge}
+use Rattle.docketing.specs.Promises.{HasItsBytes, ReadAgain, WrittenAgain, OneJudge}
 
 -- a flag's byte, and the watch's two
 flag-byte : (f : ℕ) → leb f 1 ≡ true → flagOf (eqb f 1) ≡ f
@@ -112,7 +111,7 @@ joined [] b p q = q
 joined (x ∷ a) b p q = one-more (p .below 0) (joined a b (record { below = λ i. p .below (suc i) }) q)
 
 head-bytes : (j : Judge) → JudgeFits j → Bytes (headBytes j)
-unfolding headBytes
+unfolding headOf
 head-bytes j f =
     let spare : 0 < 256 = omega arith in
     let opened : flagOf (j .opened) < 256 = omega (arith, flag-most (j .opened)) in
@@ -136,7 +135,7 @@ unfolding cycleBytes
 cycle-bytes c f g = joined (inputBytes (c .inputs)) (outputBytes (c .outputs)) (input-bytes (c .inputs) f) (output-bytes (c .outputs) g)
 
 pub judge-length : (j : Judge) → JudgeFits j → length (judgeBytes j) ≡ judgeSize
-unfolding judgeBytes headBytes cycleBytes inputBytes outputBytes
+unfolding judgeBytes headOf cycleBytes inputBytes outputBytes
 judge-length j f = omega (arith, f .lost .size)
 
 pub has-its-bytes : HasItsBytes
@@ -149,7 +148,7 @@ has-its-bytes j s =
 
 -- what they are read as
 cycle-again : (j : Judge) (rest : List ℕ) → InputsFit (j .previous .inputs) → OutputsFit (j .previous .outputs) → cycleIn (judgeBytes j ++ rest) ≡ j .previous
-unfolding judgeBytes headBytes cycleBytes inputBytes outputBytes cycleIn
+unfolding judgeBytes headOf cycleBytes inputBytes outputBytes cycleIn
 cycle-again j rest f g =
     let b : List ℕ = judgeBytes j ++ rest in
     let hbusreq : numberLow 2 b 12 ≡ j .previous .inputs .hbusreq = omega (arith, f .hbusreq) in
@@ -158,7 +157,7 @@ cycle-again j rest f g =
     rw (hbusreq, hlock, hgrant)
 
 pub read-again : ReadAgain
-unfolding bytesJudge judgeBytes headBytes cycleBytes inputBytes outputBytes isJudge judgeIn
+unfolding bytesJudge judgeBytes headOf cycleBytes inputBytes outputBytes isJudge judgeIn
 read-again j rest s =
     let f = judge-fits j s in
     let b : List ℕ = judgeBytes j ++ rest in
@@ -184,7 +183,7 @@ pair-again : (b : List ℕ) (p : ℕ) → Bytes b → (numberLow 2 b p % 256 ≡
 pair-again b p w = (omega (arith, w .below p), omega (arith, w .below p, w .below (p + 1)))
 
 head-again : (b : List ℕ) → Bytes b → isJudge b ≡ true → headBytes (judgeIn b) ≡ slots b 0 12
-unfolding headBytes judgeIn
+unfolding headOf judgeIn
 head-again b w e =
     let t = shape-of b e in
     let p = watch-bytes (getD b 2 0) (getD b 3 0) (t .watch) (t .left) in

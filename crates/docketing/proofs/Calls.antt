@@ -6,7 +6,7 @@
 --   refused-unchanged == a step that answers another number than 0 changes no byte
 --   Follows, follows == what a step that was taken started from, and what it leaves
 use Prim.Native.Nat.{ℕ, zero, suc, _≤_, _<_}
-use mathlib.Core.Path.{_≡_, refl, sym, _∙_, ap}
+use mathlib.Core.Path.{_≡_, refl, sym, _∙_}
 use mathlib.Core.Bool.{Bool, false}
 use mathlib.Core.List.{List, [], _∷_, map}
 use native.Mathlib.Omega.{arith}
@@ -19,15 +19,13 @@ use Rattle.rulebook.specs.declared.Rule.the-variants.{A1}
 use Rattle.rulebook.specs.declared.Judge.{Judge}
 use Rattle.rulebook.specs.declared.Verdict.{Verdict}
 use Rattle.rulebook.specs.declared.Verdict.the-variants.{Taken, Refused}
-use Rattle.rulebook.specs.declared.Started.{Started}
 use Rattle.rulebook.specs.Rules.{rules}
 use Rattle.rulebook.specs.State.{startJudge, startOf}
 use Rattle.rulebook.specs.Charges.{charges}
-use Rattle.rulebook.specs.Named.{maskOf}
-use Rattle.rulebook.specs.Step.{numberOf, judgeOf}
+use Rattle.rulebook.specs.Step.{numberOf}
 use Rattle.rulebook.proofs.Named.{mask-bit}
-use Rattle.docketing.specs.Bytes.{judgeSize, Docket, known, unknown, bytesJudge}
-use Rattle.docketing.specs.Calls.{maskSize, Ruling, taken, refused, ofDocket, judgeStep, judgeNumber, judgeAfter, brokenAfter, judgeStart, startAfter, JudgeStepCall, JudgeStartCall}
+use Rattle.docketing.specs.Bytes.{judgeSize, bytesJudge}
+use Rattle.docketing.specs.Calls.{maskSize, Ruling, taken, refused, ofDocket, judgeStep, judgeNumber, judgeAfter, brokenAfter, judgeStart, startAfter}
 use Rattle.docketing.specs.Promises.{MaskNamesTheCharged, RefusedStepsKeep, RefusedStartsKeep, OneStep, OneStart}
 
 pub short-judge : (judge broken : List ℕ) (c : Cycle) → length judge < judgeSize → judgeStep judge broken c ≡ refused Short

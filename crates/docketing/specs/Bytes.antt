@@ -12,7 +12,7 @@
 -- opened is 0 or 1; the watch is 0 none, 1 on G2, 2 on G3; k is the ready cycles left on G3, else 0.
 --
 --   judgeSize    == the bytes of a judge
---   judgeBytes j == the bytes of the judge j: headBytes, cycleBytes of the previous cycle, and the lost counts
+--   judgeBytes j == the bytes of the judge j: headBytes are 0 to 11, cycleBytes of the previous cycle 12 to 25; the lost counts follow
 --   isJudge b    == b begins with the bytes of a judge, well formed or not
 --   judgeIn b    == that judge
 --   Docket       == what lent bytes are: a judge, or bytes that no judge has
@@ -44,13 +44,16 @@ leftByte Nothing = 0
 leftByte OnG2 = 0
 leftByte (OnG3 k) = k
 
-unfoldable pub headBytes : Judge → List ℕ
-headBytes j =
-    j .n
-    ∷ flagOf (j .opened)
-    ∷ watchByte (j .watch)
-    ∷ leftByte (j .watch)
-    ∷ (lowFirst 2 (j .locked) ++ (j .waited ∷ 0 ∷ lowFirst 4 (j .count)))
+unfoldable pub headOf : ℕ → Bool → Watch → ℕ → ℕ → ℕ → List ℕ
+headOf n opened watch locked waited count =
+    n
+    ∷ flagOf opened
+    ∷ watchByte watch
+    ∷ leftByte watch
+    ∷ (lowFirst 2 locked ++ (waited ∷ 0 ∷ lowFirst 4 count))
+
+abbrev pub headBytes : Judge → List ℕ
+headBytes j = headOf (j .n) (j .opened) (j .watch) (j .locked) (j .waited) (j .count)
 
 -- the eleven columns, in the order of a trace line
 unfoldable pub inputBytes : Inputs → List ℕ

@@ -24,7 +24,7 @@ pub extern "C" fn espigambre_judge_start(n: u32, judge: &mut [u8]) -> u32
     let verdict = started.verdict;
     match verdict {
         Verdict::Taken => {
-            dockets::put(first, judge);
+            entries::put(first, judge);
             0
         }
         Verdict::Refused(r) => signals::number(r),
@@ -41,8 +41,8 @@ fn settle(j: Judge, c: Cycle, judge: &mut [u8], broken: &mut [u8]) -> u32
     let verdict = ruled.verdict;
     match verdict {
         Verdict::Taken => {
-            dockets::put(next, judge);
-            dockets::put_mask(ruled.mask, broken);
+            entries::put(next, judge);
+            entries::put_mask(ruled.mask, broken);
             0
         }
         Verdict::Refused(r) => signals::number(r),

@@ -19,5 +19,6 @@ pub mod Forms
 pub mod Readers
 pub mod AnyInput
 pub mod Simulator
+pub mod JudgeCalls
 pub mod Wrong
 pub mod Examples

@@ -6,4 +6,5 @@ pub mod Promises
 pub mod Programs
 pub mod AnyInput
 pub mod Simulator
+pub mod JudgeCalls
 pub mod Wrong

@@ -1,8 +1,8 @@
 -- `left_byte` meets its contract.
-use Rattle.dockets.proofs.Parts.{left-again}
+use Rattle.entries.proofs.Stored.{left-again}
 use borrow.Author.Needs.{needs}
-use Rattle.dockets.proofs.writing.left_byte.Statement.{statement}
-use Rattle.dockets.proofs.writing.left_byte.Tie as tie
+use Rattle.entries.proofs.parts.left_byte.Statement.{statement}
+use Rattle.entries.proofs.parts.left_byte.Tie as tie
 
 enum-told : tie.Need-enum-told
 enum-told c = search needs

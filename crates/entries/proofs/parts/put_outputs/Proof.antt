@@ -3,8 +3,8 @@ use native.Mathlib.Omega.{arith}
 use lib.ListN.{length-set}
 use Rattle.docketing.specs.Bytes.{outputBytes}
 use borrow.Author.Needs.{needs}
-use Rattle.dockets.proofs.writing.put_outputs.Statement.{statement}
-use Rattle.dockets.proofs.writing.put_outputs.Tie as tie
+use Rattle.entries.proofs.parts.put_outputs.Statement.{statement}
+use Rattle.entries.proofs.parts.put_outputs.Tie as tie
 
 cast-hmaster : tie.Need-cast-hmaster
 cast-hmaster c = search needs

@@ -1,10 +1,10 @@
 -- `put_head` meets its contract: twelve stores in a row.
 use native.Mathlib.Omega.{arith}
 use lib.ListN.{length-set}
-use Rattle.docketing.specs.Bytes.{headBytes}
+use Rattle.docketing.specs.Bytes.{headOf}
 use borrow.Author.Needs.{needs}
-use Rattle.dockets.proofs.writing.put_head.Statement.{statement}
-use Rattle.dockets.proofs.writing.put_head.Tie as tie
+use Rattle.entries.proofs.parts.put_head.Statement.{statement}
+use Rattle.entries.proofs.parts.put_head.Tie as tie
 
 cast-n : tie.Need-cast-n
 cast-n c = search needs
@@ -79,7 +79,7 @@ same-length : tie.Need-same-length
 same-length c = simp length-set
 
 returns : tie.Need-returns
-unfolding headBytes
+unfolding headOf
 returns c = cc
 
 pub put-head-spec : {M : Type 1} → statement M

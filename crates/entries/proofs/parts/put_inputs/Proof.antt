@@ -3,8 +3,8 @@ use native.Mathlib.Omega.{arith}
 use lib.ListN.{length-set}
 use Rattle.docketing.specs.Bytes.{inputBytes}
 use borrow.Author.Needs.{needs}
-use Rattle.dockets.proofs.writing.put_inputs.Statement.{statement}
-use Rattle.dockets.proofs.writing.put_inputs.Tie as tie
+use Rattle.entries.proofs.parts.put_inputs.Statement.{statement}
+use Rattle.entries.proofs.parts.put_inputs.Tie as tie
 
 cast-hready : tie.Need-cast-hready
 cast-hready c = search needs

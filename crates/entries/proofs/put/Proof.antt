@@ -1,8 +1,8 @@
 -- `put` meets its contract: the four parts, one behind the other.
-use Rattle.dockets.proofs.Parts.{all-stored}
+use Rattle.entries.proofs.Stored.{all-stored}
 use borrow.Author.Needs.{needs}
-use Rattle.dockets.proofs.put.Statement.{statement}
-use Rattle.dockets.proofs.put.Tie as tie
+use Rattle.entries.proofs.put.Statement.{statement}
+use Rattle.entries.proofs.put.Tie as tie
 
 put-head-requires : tie.Need-put-head-requires
 put-head-requires c κs = search needs

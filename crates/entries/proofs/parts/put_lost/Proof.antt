@@ -5,9 +5,9 @@ use native.Mathlib.Omega.{arith}
 use borrow.Author.Needs.{needs}
 use lib.ListN.{length, take, length-set}
 use lib.Seq.{sets, take-all}
-use Rattle.dockets.proofs.Parts.{next-store}
-use Rattle.dockets.proofs.writing.put_lost.Statement.{statement}
-use Rattle.dockets.proofs.writing.put_lost.Tie as tie
+use Rattle.entries.proofs.Stored.{next-store}
+use Rattle.entries.proofs.parts.put_lost.Statement.{statement}
+use Rattle.entries.proofs.parts.put_lost.Tie as tie
 
 abbrev Inv-loop : tie.InvT-loop
 Inv-loop b₀ lost i₀ b i = (i ≤ 16) × (length b ≡ length b₀) × (b ≡ sets b₀ 26 (take i lost))

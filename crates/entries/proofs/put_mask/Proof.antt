@@ -1,10 +1,10 @@
 -- `put_mask` meets its contract: four stores in a row.
 use native.Mathlib.Omega.{arith}
 use lib.ListN.{length-set}
-use Rattle.dockets.proofs.Parts.{mask-stored}
+use Rattle.entries.proofs.Stored.{mask-stored}
 use borrow.Author.Needs.{needs}
-use Rattle.dockets.proofs.put_mask.Statement.{statement}
-use Rattle.dockets.proofs.put_mask.Tie as tie
+use Rattle.entries.proofs.put_mask.Statement.{statement}
+use Rattle.entries.proofs.put_mask.Tie as tie
 
 low-byte-requires : tie.Need-low-byte-requires
 low-byte-requires c κs = search needs

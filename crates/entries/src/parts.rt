@@ -1,5 +1,4 @@
 // The parts of a judge, written into its bytes.
-use rulebook::Judge;
 use rulebook::Watch;
 use rules::Inputs;
 use rules::Outputs;
@@ -8,8 +7,8 @@ ghost use Prim.Native.Nat.{_%_, _≤_, _<_};
 ghost use lib.ListN.{length};
 ghost use lib.Seq.{sets};
 ghost use Rattle.rules.specs.Step.{flagOf};
-ghost use Rattle.docketing.specs.Bytes.{watchByte, leftByte, headBytes, inputBytes, outputBytes};
-ghost use Rattle.docketing.specs.Fits.{InputsFit, OutputsFit, Low, JudgeFits};
+ghost use Rattle.docketing.specs.Bytes.{watchByte, leftByte, headOf, inputBytes, outputBytes};
+ghost use Rattle.docketing.specs.Fits.{InputsFit, OutputsFit, Low};
 
 pub fn low_byte(v: u32) -> u8
     ensures { λ r. ⌜ r ≡ v % 256 ⌝ }
@@ -45,25 +44,24 @@ fn left_byte(w: Watch) -> u8
 }
 
 // Bytes 0 to 11.
-pub fn put_head(j: Judge, b: &mut [u8])
-    requires { ⌜ JudgeFits j × (42 ≤ length (now b)) ⌝ }
-    ensures { λ _. ⌜ now (b .exit) ≡ sets (now (b .entry)) 0 (headBytes j) ⌝ }
+pub fn put_head(n: u32, opened: bool, w: Watch, locked: u32, waited: u32, count: u32, b: &mut [u8])
+    requires { ⌜ (n < 256) × (leftByte w < 256) × (waited < 256) × (42 ≤ length (now b)) ⌝ }
+    ensures { λ _. ⌜ now (b .exit) ≡ sets (now (b .entry)) 0 (headOf n opened w locked waited count) ⌝ }
 {
-    let w = j.watch;
-    let n = j.n as u8;
-    let waited = j.waited as u8;
-    let second = j.count / 256;
+    let n = n as u8;
+    let waited = waited as u8;
+    let second = count / 256;
     let third = second / 256;
     let fourth = third / 256;
     b[0] = n;
-    b[1] = flag_byte(j.opened);
+    b[1] = flag_byte(opened);
     b[2] = watch_byte(w);
     b[3] = left_byte(w);
-    b[4] = low_byte(j.locked);
-    b[5] = low_byte(j.locked / 256);
+    b[4] = low_byte(locked);
+    b[5] = low_byte(locked / 256);
     b[6] = waited;
     b[7] = 0;
-    b[8] = low_byte(j.count);
+    b[8] = low_byte(count);
     b[9] = low_byte(second);
     b[10] = low_byte(third);
     b[11] = low_byte(fourth);

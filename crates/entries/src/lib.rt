@@ -1,0 +1,39 @@
+// The judge's state written into the first 42 bytes of a lent slice, and its mask into the first four of another.
+mod parts;
+
+use rulebook::Judge;
+ghost use mathlib.Core.Path.{_≡_};
+ghost use Prim.Native.Nat.{_≤_};
+ghost use lib.ListN.{length};
+ghost use Rattle.docketing.specs.Fits.{JudgeFits};
+ghost use Rattle.docketing.specs.Calls.{judgeStored, maskStored};
+
+// Writes the bytes of a judge.
+pub fn put(j: Judge, b: &mut [u8])
+    requires { ⌜ JudgeFits j × (42 ≤ length (now b)) ⌝ }
+    ensures { λ _. ⌜ now (b .exit) ≡ judgeStored j (now (b .entry)) ⌝ }
+{
+    let previous = j.previous;
+    let lost = j.lost;
+    let x = previous.inputs;
+    let o = previous.outputs;
+    let w = j.watch;
+    parts::put_head(j.n, j.opened, w, j.locked, j.waited, j.count, b);
+    parts::put_inputs(x, b);
+    parts::put_outputs(o, b);
+    parts::put_lost(lost, b);
+}
+
+// Writes a mask, low byte first.
+pub fn put_mask(m: u32, b: &mut [u8])
+    requires { ⌜ 4 ≤ length (now b) ⌝ }
+    ensures { λ _. ⌜ now (b .exit) ≡ maskStored m (now (b .entry)) ⌝ }
+{
+    let second = m / 256;
+    let third = second / 256;
+    let fourth = third / 256;
+    b[0] = parts::low_byte(m);
+    b[1] = parts::low_byte(second);
+    b[2] = parts::low_byte(third);
+    b[3] = parts::low_byte(fourth);
+}
