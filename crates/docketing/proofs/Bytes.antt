@@ -29,7 +29,7 @@ use Rattle.words.specs.Words.{lowFirst, numberLow}
 use Rattle.words.proofs.Words.{Bytes, none-bytes, one-more, slots, slots-take, number-bytes, bytes-of-number}
 use Rattle.docketing.specs.Bytes.{judgeSize, watchByte, leftByte, headOf, headBytes, inputBytes, outputBytes, cycleBytes, judgeBytes, watchOf, isJudge, cycleIn, judgeIn, bytesJudge}
 use Rattle.docketing.specs.Fits.{InputsFit, OutputsFit, JudgeFits}
-use Rattle.docketing.specs.Promises.{HasItsBytes, ReadAgain, WrittenAgain, OneJudge}
+use Rattle.docketing.specs.Promises.{HasItsBytes, ReadAgain, WrittenAgain, OneJudge, CountInItsBytes}
 
 -- a flag's byte, and the watch's two
 flag-byte : (f : ℕ) → leb f 1 ≡ true → flagOf (eqb f 1) ≡ f
@@ -224,3 +224,7 @@ one-judge j k s t e =
     let q = read-again k [] t in
     let u : bytesJudge (judgeBytes j ++ []) ≡ bytesJudge (judgeBytes k ++ []) = rw e in
     cc
+
+pub count-in-its-bytes : CountInItsBytes
+unfolding judgeBytes headOf cycleBytes inputBytes outputBytes
+count-in-its-bytes j k = refl

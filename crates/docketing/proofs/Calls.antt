@@ -4,7 +4,7 @@
 --   short-judge, short-broken, short-start == a buffer that is too short is refusal 9
 --   long-enough, plain-start == with buffers that are long enough, a call is the step of the judge that the bytes write, or the start
 --   refused-unchanged == a step that answers another number than 0 changes no byte
---   Follows, follows == what a step that was taken started from, and what it leaves
+--   flag-at == the flag of the rule i
 use Prim.Native.Nat.{ℕ, zero, suc, _≤_, _<_}
 use mathlib.Core.Path.{_≡_, refl, sym, _∙_}
 use mathlib.Core.Bool.{Bool, false}
@@ -76,7 +76,7 @@ pub one-start : OneStart
 one-start n judge r r' j j' p q = (p .0 ∙ sym (q .0), p .1 ∙ sym (q .1))
 
 -- the flag of the rule i
-flag-at : (f : Rule → Bool) (l : List Rule) (i : ℕ) → i < length l → getD (map f l) i false ≡ f (getD l i A1)
+pub flag-at : (f : Rule → Bool) (l : List Rule) (i : ℕ) → i < length l → getD (map f l) i false ≡ f (getD l i A1)
 flag-at f [] i h = absurd (omega arith)
 flag-at f (r ∷ l) zero h = refl
 flag-at f (r ∷ l) (suc i) h = flag-at f l i (omega arith)

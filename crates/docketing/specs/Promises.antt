@@ -4,7 +4,7 @@
 use Prim.Native.Nat.{ℕ, _≤_, _<_}
 use mathlib.Core.Path.{_≡_}
 use mathlib.Core.List.{List, _++_, map}
-use lib.ListN.{length, getD, take}
+use lib.ListN.{length, getD, take, drop}
 use Rattle.rules.specs.declared.Cycle.{Cycle}
 use Rattle.rules.specs.Masks.{high}
 use Rattle.rulebook.specs.declared.Rule.the-variants.{A1}
@@ -13,6 +13,8 @@ use Rattle.rulebook.specs.Rules.{rules}
 use Rattle.rulebook.specs.Charges.{charges}
 use Rattle.rulebook.specs.Named.{maskOf}
 use Rattle.rulebook.specs.Kept.{Sound}
+use Rattle.rulebook.specs.Recounted.{withCount}
+use Rattle.words.specs.Words.{lowFirst}
 use Rattle.docketing.specs.Bytes.{judgeSize, judgeBytes, known, bytesJudge}
 use Rattle.docketing.specs.Calls.{JudgeStepCall, JudgeStartCall}
 
@@ -34,6 +36,10 @@ WrittenAgain = (b : List ℕ) (j : Judge) → judgeSize ≤ length b → AreByte
 -- and no two well-formed judges have the same bytes.
 abbrev pub OneJudge : Type 0
 OneJudge = (j k : Judge) → Sound j → Sound k → judgeBytes j ≡ judgeBytes k → j ≡ k
+
+-- The count stands in bytes 8 to 11 and nowhere else: setting them sets the count.
+abbrev pub CountInItsBytes : Type 0
+CountInItsBytes = (j : Judge) (k : ℕ) → judgeBytes (withCount k j) ≡ take 8 (judgeBytes j) ++ (lowFirst 4 k ++ drop 12 (judgeBytes j))
 
 -- The mask names each rule by its place in the report's order: bit i is that of the rule i.
 abbrev pub MaskNamesTheCharged : Type 0
