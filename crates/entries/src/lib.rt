@@ -29,11 +29,8 @@ pub fn put_mask(m: u32, b: &mut [u8])
     requires { ⌜ 4 ≤ length (now b) ⌝ }
     ensures { λ _. ⌜ now (b .exit) ≡ maskStored m (now (b .entry)) ⌝ }
 {
-    let second = m / 256;
-    let third = second / 256;
-    let fourth = third / 256;
-    b[0] = parts::low_byte(m);
-    b[1] = parts::low_byte(second);
-    b[2] = parts::low_byte(third);
-    b[3] = parts::low_byte(fourth);
+    b[0] = (m % 256) as u8;
+    b[1] = (m / 256 % 256) as u8;
+    b[2] = (m / 256 / 256 % 256) as u8;
+    b[3] = (m / 256 / 256 / 256 % 256) as u8;
 }

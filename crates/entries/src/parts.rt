@@ -10,7 +10,7 @@ ghost use Rattle.rules.specs.Step.{flagOf};
 ghost use Rattle.docketing.specs.Bytes.{watchByte, leftByte, headOf, inputBytes, outputBytes};
 ghost use Rattle.docketing.specs.Fits.{InputsFit, OutputsFit, Low};
 
-pub fn low_byte(v: u32) -> u8
+fn low_byte(v: u32) -> u8
     ensures { λ r. ⌜ r ≡ v % 256 ⌝ }
 {
     (v % 256) as u8
@@ -50,21 +50,18 @@ pub fn put_head(n: u32, opened: bool, w: Watch, locked: u32, waited: u32, count:
 {
     let n = n as u8;
     let waited = waited as u8;
-    let second = count / 256;
-    let third = second / 256;
-    let fourth = third / 256;
     b[0] = n;
     b[1] = flag_byte(opened);
     b[2] = watch_byte(w);
     b[3] = left_byte(w);
-    b[4] = low_byte(locked);
-    b[5] = low_byte(locked / 256);
+    b[4] = (locked % 256) as u8;
+    b[5] = (locked / 256 % 256) as u8;
     b[6] = waited;
     b[7] = 0;
-    b[8] = low_byte(count);
-    b[9] = low_byte(second);
-    b[10] = low_byte(third);
-    b[11] = low_byte(fourth);
+    b[8] = (count % 256) as u8;
+    b[9] = (count / 256 % 256) as u8;
+    b[10] = (count / 256 / 256 % 256) as u8;
+    b[11] = (count / 256 / 256 / 256 % 256) as u8;
 }
 
 // Bytes 12 to 18.
@@ -75,10 +72,10 @@ pub fn put_inputs(x: Inputs, b: &mut [u8])
     let hready = x.hready as u8;
     let htrans = x.htrans as u8;
     let hburst = x.hburst as u8;
-    b[12] = low_byte(x.hbusreq);
-    b[13] = low_byte(x.hbusreq / 256);
-    b[14] = low_byte(x.hlock);
-    b[15] = low_byte(x.hlock / 256);
+    b[12] = (x.hbusreq % 256) as u8;
+    b[13] = (x.hbusreq / 256 % 256) as u8;
+    b[14] = (x.hlock % 256) as u8;
+    b[15] = (x.hlock / 256 % 256) as u8;
     b[16] = hready;
     b[17] = htrans;
     b[18] = hburst;
@@ -94,8 +91,8 @@ pub fn put_outputs(o: Outputs, b: &mut [u8])
     let decide = o.decide as u8;
     let granted = o.granted as u8;
     let busreq = o.busreq as u8;
-    b[19] = low_byte(o.hgrant);
-    b[20] = low_byte(o.hgrant / 256);
+    b[19] = (o.hgrant % 256) as u8;
+    b[20] = (o.hgrant / 256 % 256) as u8;
     b[21] = hmaster;
     b[22] = hmastlock;
     b[23] = decide;

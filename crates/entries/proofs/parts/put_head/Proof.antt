@@ -33,14 +33,14 @@ left-byte-requires c κs = search needs
 slice-write-b-4 : tie.Need-slice-write-b-4
 slice-write-b-4 c = simp length-set (omega arith)
 
-low-byte-requires : tie.Need-low-byte-requires
-low-byte-requires c κs = search needs
+cast-b : tie.Need-cast-b
+cast-b c = search needs
 
 slice-write-b-5 : tie.Need-slice-write-b-5
 slice-write-b-5 c = simp length-set (omega arith)
 
-low-byte-requires-2 : tie.Need-low-byte-requires-2
-low-byte-requires-2 c κs = search needs
+cast-b-2 : tie.Need-cast-b-2
+cast-b-2 c = search needs
 
 slice-write-b-6 : tie.Need-slice-write-b-6
 slice-write-b-6 c = simp length-set (omega arith)
@@ -51,26 +51,26 @@ slice-write-b-7 c = simp length-set (omega arith)
 slice-write-b-8 : tie.Need-slice-write-b-8
 slice-write-b-8 c = simp length-set (omega arith)
 
-low-byte-requires-3 : tie.Need-low-byte-requires-3
-low-byte-requires-3 c κs = search needs
+cast-b-3 : tie.Need-cast-b-3
+cast-b-3 c = search needs
 
 slice-write-b-9 : tie.Need-slice-write-b-9
 slice-write-b-9 c = simp length-set (omega arith)
 
-low-byte-requires-4 : tie.Need-low-byte-requires-4
-low-byte-requires-4 c κs = search needs
+cast-b-4 : tie.Need-cast-b-4
+cast-b-4 c = search needs
 
 slice-write-b-10 : tie.Need-slice-write-b-10
 slice-write-b-10 c = simp length-set (omega arith)
 
-low-byte-requires-5 : tie.Need-low-byte-requires-5
-low-byte-requires-5 c κs = search needs
+cast-b-5 : tie.Need-cast-b-5
+cast-b-5 c = search needs
 
 slice-write-b-11 : tie.Need-slice-write-b-11
 slice-write-b-11 c = simp length-set (omega arith)
 
-low-byte-requires-6 : tie.Need-low-byte-requires-6
-low-byte-requires-6 c κs = search needs
+cast-b-6 : tie.Need-cast-b-6
+cast-b-6 c = search needs
 
 slice-write-b-12 : tie.Need-slice-write-b-12
 slice-write-b-12 c = simp length-set (omega arith)
@@ -95,19 +95,19 @@ put-head-spec =
     slice-write-b-3
     left-byte-requires
     slice-write-b-4
-    low-byte-requires
+    cast-b
     slice-write-b-5
-    low-byte-requires-2
+    cast-b-2
     slice-write-b-6
     slice-write-b-7
     slice-write-b-8
-    low-byte-requires-3
+    cast-b-3
     slice-write-b-9
-    low-byte-requires-4
+    cast-b-4
     slice-write-b-10
-    low-byte-requires-5
+    cast-b-5
     slice-write-b-11
-    low-byte-requires-6
+    cast-b-6
     slice-write-b-12
     same-length
     returns)

@@ -15,26 +15,26 @@ cast-htrans c = search needs
 cast-hburst : tie.Need-cast-hburst
 cast-hburst c = search needs
 
-low-byte-requires : tie.Need-low-byte-requires
-low-byte-requires c κs = search needs
+cast-b : tie.Need-cast-b
+cast-b c = search needs
 
 slice-write-b : tie.Need-slice-write-b
 slice-write-b c = search needs
 
-low-byte-requires-2 : tie.Need-low-byte-requires-2
-low-byte-requires-2 c κs = search needs
+cast-b-2 : tie.Need-cast-b-2
+cast-b-2 c = search needs
 
 slice-write-b-2 : tie.Need-slice-write-b-2
 slice-write-b-2 c = simp length-set (omega arith)
 
-low-byte-requires-3 : tie.Need-low-byte-requires-3
-low-byte-requires-3 c κs = search needs
+cast-b-3 : tie.Need-cast-b-3
+cast-b-3 c = search needs
 
 slice-write-b-3 : tie.Need-slice-write-b-3
 slice-write-b-3 c = simp length-set (omega arith)
 
-low-byte-requires-4 : tie.Need-low-byte-requires-4
-low-byte-requires-4 c κs = search needs
+cast-b-4 : tie.Need-cast-b-4
+cast-b-4 c = search needs
 
 slice-write-b-4 : tie.Need-slice-write-b-4
 slice-write-b-4 c = simp length-set (omega arith)
@@ -62,13 +62,13 @@ put-inputs-spec =
     cast-hready
     cast-htrans
     cast-hburst
-    low-byte-requires
+    cast-b
     slice-write-b
-    low-byte-requires-2
+    cast-b-2
     slice-write-b-2
-    low-byte-requires-3
+    cast-b-3
     slice-write-b-3
-    low-byte-requires-4
+    cast-b-4
     slice-write-b-4
     slice-write-b-5
     slice-write-b-6

@@ -21,14 +21,14 @@ cast-granted c = search needs
 cast-busreq : tie.Need-cast-busreq
 cast-busreq c = search needs
 
-low-byte-requires : tie.Need-low-byte-requires
-low-byte-requires c κs = search needs
+cast-b : tie.Need-cast-b
+cast-b c = search needs
 
 slice-write-b : tie.Need-slice-write-b
 slice-write-b c = search needs
 
-low-byte-requires-2 : tie.Need-low-byte-requires-2
-low-byte-requires-2 c κs = search needs
+cast-b-2 : tie.Need-cast-b-2
+cast-b-2 c = search needs
 
 slice-write-b-2 : tie.Need-slice-write-b-2
 slice-write-b-2 c = simp length-set (omega arith)
@@ -64,9 +64,9 @@ put-outputs-spec =
     cast-decide
     cast-granted
     cast-busreq
-    low-byte-requires
+    cast-b
     slice-write-b
-    low-byte-requires-2
+    cast-b-2
     slice-write-b-2
     slice-write-b-3
     slice-write-b-4
