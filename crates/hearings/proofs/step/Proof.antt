@@ -1,8 +1,8 @@
--- `espigambre_judge_step` meets its contract: 9 twice, 10, and then as a step.
-use Rattle.host.proofs.Dockets.{lost-size, step-short-judge, step-short-broken, step-unknown, step-known}
+-- `step` meets its contract: 9 twice, 10, and then as a step.
+use Rattle.hearings.proofs.Close.{lost-size, step-short-judge, step-short-broken, step-unknown, step-known}
 use borrow.Author.Needs.{needs}
-use Rattle.host.proofs.judge.espigambre_judge_step.Statement.{statement}
-use Rattle.host.proofs.judge.espigambre_judge_step.Tie as tie
+use Rattle.hearings.proofs.step.Statement.{statement}
+use Rattle.hearings.proofs.step.Tie as tie
 
 returns : tie.Need-returns
 returns c = search step-short-judge
@@ -31,8 +31,8 @@ same-length-3 c = search needs
 returns-4 : tie.Need-returns-4
 returns-4 c = search step-known
 
-pub espigambre-judge-step-spec : {M : Type 1} → statement M
-espigambre-judge-step-spec =
+pub step-spec : {M : Type 1} → statement M
+step-spec =
     tie.close
     (tie.spec
     returns

@@ -1,8 +1,8 @@
--- `espigambre_judge_start` meets its contract: 9, then as a start.
-use Rattle.host.proofs.Dockets.{start-fits, start-short, start-taken, start-refused}
+-- `start` meets its contract: 9, then as a start.
+use Rattle.hearings.proofs.Close.{start-fits, start-short, start-taken, start-refused}
 use borrow.Author.Needs.{needs}
-use Rattle.host.proofs.judge.espigambre_judge_start.Statement.{statement}
-use Rattle.host.proofs.judge.espigambre_judge_start.Tie as tie
+use Rattle.hearings.proofs.start.Statement.{statement}
+use Rattle.hearings.proofs.start.Tie as tie
 
 returns : tie.Need-returns
 returns c = search start-short
@@ -31,8 +31,8 @@ returns-2 c = search start-taken
 returns-3 : tie.Need-returns-3
 returns-3 c = search start-refused
 
-pub espigambre-judge-start-spec : {M : Type 1} → statement M
-espigambre-judge-start-spec =
+pub start-spec : {M : Type 1} → statement M
+start-spec =
     tie.close
     (tie.spec
     returns

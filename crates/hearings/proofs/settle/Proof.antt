@@ -1,8 +1,8 @@
 -- `settle` meets its contract: what the judge answers, and the bytes of what follows.
-use Rattle.host.proofs.Dockets.{next-fits, settled-taken, settled-refused}
+use Rattle.hearings.proofs.Close.{next-fits, settled-taken, settled-refused}
 use borrow.Author.Needs.{needs}
-use Rattle.host.proofs.judge.settle.Statement.{statement}
-use Rattle.host.proofs.judge.settle.Tie as tie
+use Rattle.hearings.proofs.settle.Statement.{statement}
+use Rattle.hearings.proofs.settle.Tie as tie
 
 rule-requires : tie.Need-rule-requires
 rule-requires c κs = search needs
