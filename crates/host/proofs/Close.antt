@@ -1,5 +1,6 @@
 -- The ends of the two calls, over plain values: S and L are the lent buffers, S' and L' the same at exit.
 --
+--   some            == a refusal's number is not 0
 --   unsound, sound  == what the bytes lead to: 10, or the step of the state that they write
 --   refusal-10, refusal-8, refusal-none, refusal-of == the ends of finding the number
 --   many, enters, enters-invalid, enters-unready == the ends of the tests of a step
@@ -53,8 +54,7 @@ use Rattle.glances.specs.Glances.{Driven}
 use Rattle.host.specs.Tests.{passes}
 use Rattle.host.specs.Entry.{Enters, Took, Small}
 
--- a refusal's number is not 0
-some : (r : Refusal) → 1 ≤ numberOf r
+pub some : (r : Refusal) → 1 ≤ numberOf r
 some refusal.Masters = omega arith
 some refusal.Header = omega arith
 some refusal.Shape = omega arith

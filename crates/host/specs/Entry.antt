@@ -5,9 +5,11 @@
 --   Enters S x r n b == r is the number that the step answers, and where that is 0 the cycle may be taken
 --   Took n b x o S S' == it was taken: the outputs o were shown, and the bytes S' have the state after it
 --   Small o          == all outputs but HGRANT fit into a byte
-use Prim.Native.Nat.{ℕ, _<_}
+--   outputsIn b      == the outputs that the bytes b write
+use Prim.Native.Nat.{ℕ, _+_, _*_, _<_}
 use mathlib.Core.Path.{_≡_}
 use mathlib.Core.List.{List}
+use lib.ListN.{getD}
 use Rattle.rules.specs.declared.Check.the-variants.{Good}
 use Rattle.rules.specs.declared.State.{State}
 use Rattle.rules.specs.declared.Inputs.{Inputs}
@@ -48,3 +50,14 @@ pub record Small (o : Outputs) : Type 0 where
   pub decide : o .decide < 256
   pub granted : o .granted < 256
   pub busreq : o .busreq < 256
+
+unfoldable pub outputsIn : List ℕ → Outputs
+outputsIn b =
+    record {
+      hgrant = getD b 0 0 + getD b 1 0 * 256;
+      hmaster = getD b 2 0;
+      hmastlock = getD b 3 0;
+      decide = getD b 4 0;
+      granted = getD b 5 0;
+      busreq = getD b 6 0;
+    }

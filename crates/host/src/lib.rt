@@ -8,14 +8,14 @@ use rules::Inputs;
 use rules::Outputs;
 use rules::Start;
 ghost use mathlib.Core.Path.{_≡_};
-ghost use Prim.Native.Nat.{_≤_};
+ghost use Prim.Native.Nat.{_+_, _*_, _≤_};
 ghost use lib.ListN.{length};
 ghost use lib.Seq.{sets};
 ghost use Rattle.rules.specs.Valid.{inputsCheck};
 ghost use Rattle.hosting.specs.Bytes.{bytesState};
 ghost use Rattle.hosting.specs.Calls.{lent, outputBytes, asLine, asNumbers, ofLent, hostNumber, StepCall, ResetCall};
 ghost use Rattle.host.specs.Tests.{passes};
-ghost use Rattle.host.specs.Entry.{Takes, Enters, Took, Small};
+ghost use Rattle.host.specs.Entry.{Takes, Enters, Took, Small, outputsIn};
 
 // Whether a stimulus is valid for n, with few tests.
 fn valid(n: u32, x: Inputs) -> bool
@@ -95,43 +95,6 @@ fn take(n: u32, b: Bus, x: Inputs, state: &mut [u8]) -> Outputs
     went.outputs
 }
 
-// One cycle of the state in the lent bytes: 9, then as a step. The line of the cycle goes to the second buffer.
-#[no_mangle]
-pub extern "C" fn espigambre_step(
-    hbusreq: u32,
-    hlock: u32,
-    hready: u32,
-    htrans: u32,
-    hburst: u32,
-    state: &mut [u8],
-    line: &mut [u8],
-) -> u32
-    ensures { λ r. ⌜ StepCall asLine (lent hbusreq hlock hready htrans hburst) (now (state .entry)) (now (line .entry)) r (now (state .exit)) (now (line .exit)) ⌝ }
-{
-    if state.len() < 12 {
-        return 9;
-    }
-    if line.len() < 31 {
-        return 9;
-    }
-    let x = Inputs {
-        hbusreq,
-        hlock,
-        hready,
-        htrans,
-        hburst,
-    };
-    let e = enter(state, x);
-    if e.answer != 0 {
-        return e.answer;
-    }
-    let b = e.bus;
-    let outputs = take(e.n, b, x, state);
-    let c = Cycle { inputs: x, outputs };
-    prints::put_line(b.g, c, line);
-    0
-}
-
 // Writes the outputs of a cycle as numbers.
 fn put_numbers(o: Outputs, shown: &mut [u8])
     requires { ⌜ (8 ≤ length (now shown)) × Small o ⌝ }
@@ -147,7 +110,7 @@ fn put_numbers(o: Outputs, shown: &mut [u8])
     shown[7] = 0;
 }
 
-// The same with the outputs of the cycle as numbers in the second buffer.
+// One cycle of the state in the lent bytes: 9, then as a step. The outputs of the cycle go to the second buffer as numbers.
 #[no_mangle]
 pub extern "C" fn espigambre_step_outputs(
     hbusreq: u32,
@@ -180,6 +143,73 @@ pub extern "C" fn espigambre_step_outputs(
     let b = e.bus;
     let o = take(e.n, b, x, state);
     put_numbers(o, outputs);
+    0
+}
+
+fn wide(b: u8) -> u32
+    ensures { λ r. ⌜ r ≡ b ⌝ }
+{
+    b as u32
+}
+
+fn pair(low: u8, high: u8) -> u32
+    ensures { λ r. ⌜ r ≡ low + high * 256 ⌝ }
+{
+    low as u32 + high as u32 * 256
+}
+
+// The outputs that eight bytes write.
+fn numbers(b: &[u8]) -> Outputs
+    requires { ⌜ 8 ≤ length (now b) ⌝ }
+    ensures { λ o. ⌜ o ≡ outputsIn (now (b .entry)) ⌝ }
+{
+    Outputs {
+        hgrant: pair(b[0], b[1]),
+        hmaster: wide(b[2]),
+        hmastlock: wide(b[3]),
+        decide: wide(b[4]),
+        granted: wide(b[5]),
+        busreq: wide(b[6]),
+    }
+}
+
+// The same, and the line of the cycle goes to the second buffer.
+#[no_mangle]
+pub extern "C" fn espigambre_step(
+    hbusreq: u32,
+    hlock: u32,
+    hready: u32,
+    htrans: u32,
+    hburst: u32,
+    state: &mut [u8],
+    line: &mut [u8],
+) -> u32
+    ensures { λ r. ⌜ StepCall asLine (lent hbusreq hlock hready htrans hburst) (now (state .entry)) (now (line .entry)) r (now (state .exit)) (now (line .exit)) ⌝ }
+{
+    if state.len() < 12 {
+        return 9;
+    }
+    if line.len() < 31 {
+        return 9;
+    }
+    let g = wide(state[1]);
+    let mut shown = [0u8; 8];
+    let answer = espigambre_step_outputs(hbusreq, hlock, hready, htrans, hburst, state, &mut shown);
+    if answer != 0 {
+        return answer;
+    }
+    let outputs = numbers(&shown);
+    let c = Cycle {
+        inputs: Inputs {
+            hbusreq,
+            hlock,
+            hready,
+            htrans,
+            hburst,
+        },
+        outputs,
+    };
+    prints::put_line(g, c, line);
     0
 }
 
