@@ -20,5 +20,6 @@ pub mod Readers
 pub mod AnyInput
 pub mod Simulator
 pub mod JudgeCalls
+pub mod Recounted
 pub mod Wrong
 pub mod Examples

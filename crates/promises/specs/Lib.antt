@@ -7,4 +7,5 @@ pub mod Programs
 pub mod AnyInput
 pub mod Simulator
 pub mod JudgeCalls
+pub mod Recounted
 pub mod Wrong
