@@ -17,7 +17,7 @@ use lib.Seq.{length-take-le}
 use Rattle.rules.specs.Codes.{mostCycles}
 use Rattle.rules.proofs.Choice.{and-right}
 use Rattle.streams.specs.Streams.{Turn, Stretch, on, done, stretch}
-use Rattle.streams.specs.Blocks.{ByLines, roomFor}
+use Rattle.streams.specs.Blocks.{Whole, ByLines, roomFor}
 use Rattle.streams.specs.Stays.{kept}
 use Rattle.streams.proofs.Counted.{Counting, Used, used}
 use Rattle.console.specs.declared.Ending.{Ending}
@@ -26,7 +26,7 @@ use Rattle.console.specs.declared.Fed.the-variants.{More, Last}
 use Rattle.console.specs.Fed.{Fill}
 use Rattle.console.specs.Going.{Onward, Lent}
 use Rattle.console.specs.Ends.{isOn, EndsAfter, Came}
-use Rattle.console.specs.Ran.{closed, unread, Turned}
+use Rattle.console.specs.Ran.{unread, ended, stopped, Turned}
 
 pub again : {w most block out block' out' : ℕ} → Lent w most block out → block' ≡ block → out' ≡ out → Lent w most block' out'
 again lent e f = rw (e, f) lent
@@ -78,20 +78,26 @@ module _ {S : Type 0} (breaches : S → ℕ) (turn : S → List ℕ → Turn S) 
         let whole : n / w * w + n % w ≡ n = div-add-mod' n w in
         let back : n - (n - n % w) ≡ n % w = omega arith in
         let size : length (take n full) ≡ n = length-take-le n full (fill .fits) in
+        let some : 1 ≤ length (drop k (take n full)) = omega (arith, length-drop k (take n full), fill .grows refl) in
+        let all : Whole w lines =
+        record { lines = n / w; size = length-take-le (n - n % w) full (omega (arith, fill .fits)) ∙ omega arith } in
         record {
           further = λ g.
               let q = on-is breaches (stretch turn (length lines) s lines) (and-right (came .given) _ (sym (came .flow) ∙ g)) in
               record {
                 read = drop k (take n full);
-                some = omega (arith, length-drop k (take n full), fill .grows refl);
+                some = some;
                 lines = lines;
-                whole = record { lines = n / w; size = length-take-le (n - n % w) full (omega (arith, fill .fits)) ∙ omega arith };
+                whole = all;
                 all = parts fill ∙ ap (λ (l : List ℕ). lines ++ l) (sym rest ∙ ap (λ (i : ℕ). take i new) back);
                 cut = omega (arith, length-take (n % w) new);
                 bytes = q .0;
                 taken = q .1 ∙ ap (λ (u : S). on (q .0) u) (sym is);
               };
-          closes = λ g. closed (drop k (take n full)) lines (drop (n - n % w) (take n full)) (parts fill) (came .given, came .ending);
+          closes = λ g.
+              stopped (drop k (take n full)) lines (drop (n - n % w) (take n full)) some (parts fill) all
+              (omega (arith, length-drop (n - n % w) (take n full)))
+              (rw g at came);
         }
 
   -- the last bytes
@@ -101,7 +107,7 @@ module _ {S : Type 0} (breaches : S → ℕ) (turn : S → List ℕ → Turn S) 
       let is : take n full ≡ take k old = ap (λ (i : ℕ). take i full) (fill .ends n refl) ∙ fill .kept in
       record {
         further = λ g. absurd (true≢false (sym g ∙ off));
-        closes = λ g. closed [] (take k old) [] refl (rw is at h);
+        closes = λ g. ended (rw is at h);
       }
 
   -- no bytes

@@ -117,7 +117,7 @@ ungranted = recorded 0 0 0 0 0 0 0 0 1 0 0
 abbrev claimed : Cycle
 claimed = recorded 0 0 0 0 0 1 0 0 1 0 1
 
--- "Order: 9, 10, 8, 4, 5, 6, 7": each row meets its own test and those after it
+-- In the order 9, 10, 8, 4, 5, 6, 7: each row meets its own test and those after it
 abbrev refusals : List Asked
 refusals =
     refuses 9 (replicate 41 1) four all
@@ -151,7 +151,7 @@ cycles =
     (head 0 0 0 0 0 10 ++ (0 ∷ 0 ∷ 0 ∷ 0 ∷ 0 ∷ 0 ∷ 0 ∷ 1 ∷ 0 ∷ 0 ∷ 0 ∷ 1 ∷ 0 ∷ 1 ∷ []) ++ none ++ (5 ∷ 6 ∷ [])) (2 ∷ 2 ∷ 0 ∷ 0 ∷ 8 ∷ [])
     ∷ []
 
--- "9, 1"
+-- 9, 1
 abbrev starts : List Asked
 starts =
     declines 9 17 (replicate 41 5)

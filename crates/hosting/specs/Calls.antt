@@ -39,7 +39,7 @@ use Rattle.hosting.specs.declared.Outcome.{Outcome}
 use Rattle.hosting.specs.declared.Outcome.the-variants.{Taken, Refused}
 use Rattle.hosting.specs.Bytes.{stateSize, stateBytes, bytesState}
 
--- "HGRANT low byte first, HMASTER, HMASTLOCK, DECIDE, GRANTED, BUSREQ, 0"
+-- HGRANT low byte first, HMASTER, HMASTLOCK, DECIDE, GRANTED, BUSREQ, 0
 unfoldable pub outputBytes : Outputs → List ℕ
 outputBytes o = lowFirst 2 (o .hgrant) ++ (o .hmaster ∷ o .hmastlock ∷ o .decide ∷ o .granted ∷ o .busreq ∷ 0 ∷ [])
 

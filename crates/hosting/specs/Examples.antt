@@ -39,7 +39,7 @@ shows hgrant hmaster hmastlock decide granted busreq =
 abbrev pub outputs : List Outputs
 outputs = shows 0x8000 0xf 1 0 1 0 ∷ shows 0x0004 0x1 0 1 0 1 ∷ shows 0x0102 0x0 0 0 0 1 ∷ []
 
--- "HGRANT low byte first, HMASTER, HMASTLOCK, DECIDE, GRANTED, BUSREQ, 0"
+-- HGRANT low byte first, HMASTER, HMASTLOCK, DECIDE, GRANTED, BUSREQ, 0
 abbrev pub numbers : List (List ℕ)
 numbers =
     (0x00 ∷ 0x80 ∷ 15 ∷ 1 ∷ 0 ∷ 1 ∷ 0 ∷ 0 ∷ [])
