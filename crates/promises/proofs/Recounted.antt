@@ -1,7 +1,7 @@
 -- The promises of specs/Recounted.antt, each under its name.
 --
 --   form-same      == another count leaves a state well formed or not, as it was
---   step-same      == one step with another count
+--   step-same, recounted == one step with another count
 use Prim.Native.Nat.{ℕ, _+_, _≤_, _<_}
 use mathlib.Core.Path.{_≡_, refl, sym, _∙_, ap, ap₂}
 use mathlib.Core.Bool.{Bool, true, false}
@@ -28,7 +28,8 @@ use Rattle.rules.proofs.Taken.{taken, next-count}
 use Rattle.hosting.specs.Bytes.{stateBytes}
 use Rattle.promises.specs.Machines.{arbiter}
 use Rattle.promises.specs.Runs.{Run, stop, more, traceOf}
-use Rattle.promises.specs.Recounted.{withCount, DifferInCount, Alike, CountOnlyCounts, RunsAlike, CountInItsBytes}
+use Rattle.promises.specs.Recounted.{withCount, DifferInCount, Alike, CountOnlyCounts, RunsAlike, CountInItsBytes, LongRunsAreShown}
+use Rattle.promises.proofs.Simulator.{call-of}
 
 module _ (s : State) (k : ℕ) where
   form-same : s .count ≤ mostCycles → k ≤ mostCycles → wellFormed (withCount k s) ≡ wellFormed s
@@ -82,3 +83,20 @@ runs-alike s s' t (x ∷ xs) (more {s' = u} {o = o} e r) same few =
         ap (λ (y : Outputs). record { inputs = x; outputs = y }) (sym (l .0)) in
         (q .0, more f (q .1), ap₂ _∷_ cycle (q .2), q .3)
     go (Refused q v) f alike later = absurd (rw f at alike)
+
+-- the step itself, with another count
+recounted : (s t : State) (x : Inputs) (o : Outputs) (k : ℕ) → stepOf s x ≡ Next t o → k < mostCycles → stepOf (withCount k s) x ≡ Next (withCount (k + 1) t) o
+recounted s t x o k e room = go (stepOf (withCount k s) x) refl
+  where
+    go : (a : Answer) → stepOf (withCount k s) x ≡ a → stepOf (withCount k s) x ≡ Next (withCount (k + 1) t) o
+    go (Next u p) f =
+        let l = rw (f, e) at (step-same s k x (taken s x t o e .room) room) in
+        let c : u .count ≡ k + 1 = next-count (withCount k s) x u p (taken (withCount k s) x u p f) in
+        let same : u ≡ withCount (k + 1) t = ap (withCount (u .count)) (l .1) ∙ ap (λ (i : ℕ). withCount i t) c in
+        f ∙ ap (λ (v : State). Next v p) same ∙ ap (λ (y : Outputs). Next (withCount (k + 1) t) y) (l .0)
+    go (Refused q u) f = absurd (rw (f, e) at (step-same s k x (taken s x t o e .room) room))
+
+pub long-runs-are-shown : LongRunsAreShown
+long-runs-are-shown d s t x o k rest buffer e room space =
+    let f = recounted s t x o k e room in
+    call-of d (withCount k s) (withCount (k + 1) t) x o rest buffer (taken (withCount k s) x (withCount (k + 1) t) o f .sound) space f

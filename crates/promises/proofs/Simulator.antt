@@ -145,7 +145,7 @@ bytes-room : (s : State) (rest : List ℕ) → WellFormed s → stateSize ≤ le
 bytes-room s rest w = omega (arith, length-append (stateBytes s) rest, state-bytes s w .0)
 
 -- each step of a run is a call
-call-of : (d : Display) (s s' : State) (x : Inputs) (o : Outputs) (rest line : List ℕ) → WellFormed s → (d .size) ≤ length line → stepOf s x ≡ answer.Next s' o
+pub call-of : (d : Display) (s s' : State) (x : Inputs) (o : Outputs) (rest line : List ℕ) → WellFormed s → (d .size) ≤ length line → stepOf s x ≡ answer.Next s' o
     → StepCall d x (stateBytes s ++ rest) line 0 (stateBytes s' ++ rest) (cycleStored d (record { inputs = x; outputs = o }) line)
 unfolding stateStored
 call-of d s s' x o rest line w space e =

@@ -1,5 +1,5 @@
--- The promises over whole runs, over whole programs, and over a simulator's calls. Read Promises, Programs, AnyInput and Simulator first; Runs
--- and Machines say what their words mean, and Wrong what they shut out.
+-- The promises over whole runs, over whole programs, and over a simulator's calls. Read Promises, Programs, AnyInput, Simulator, JudgeCalls and
+-- Recounted first; Runs and Machines say what their words mean, and Wrong what they shut out.
 pub mod Machines
 pub mod Runs
 pub mod Promises

@@ -10,12 +10,14 @@ use mathlib.Core.List.{List, _++_}
 use lib.ListN.{length, take}
 use Rattle.rules.specs.declared.State.{State}
 use Rattle.rules.specs.declared.Inputs.{Inputs}
+use Rattle.rules.specs.declared.Outputs.{Outputs}
 use Rattle.rules.specs.declared.Answer.{Answer}
 use Rattle.rules.specs.declared.Answer.the-variants.{Next, Refused}
 use Rattle.rules.specs.Codes.{mostCycles}
 use Rattle.rules.specs.Step.{stepOf}
 use Rattle.words.specs.Words.{lowFirst}
 use Rattle.hosting.specs.Bytes.{stateBytes}
+use Rattle.hosting.specs.Calls.{Display, cycleStored, StepCall}
 use Rattle.promises.specs.Machines.{arbiter}
 use Rattle.promises.specs.Runs.{Run, traceOf}
 
@@ -46,7 +48,7 @@ abbrev pub CountOnlyCounts : Type 0
 CountOnlyCounts =
     (s t : State) (x : Inputs) → DifferInCount s t → s .count < mostCycles → t .count < mostCycles → Alike (stepOf s x) (stepOf t x)
 
--- So a run from a state may be taken from the same state with a smaller count: it shows the same cycles, and ends in the same state but for the count.
+-- So a run from a state may be taken from the same state with any count that leaves room: it shows the same cycles, and ends in the same state but for the count.
 abbrev pub RunsAlike : Type 0
 RunsAlike =
     (s s' t : State) (xs : List Inputs) (r : Run arbiter s xs s') → DifferInCount s t → t .count + length xs ≤ mostCycles
@@ -55,3 +57,11 @@ RunsAlike =
 -- The count stands in bytes 8 to 11 and nowhere else: setting them sets the count.
 abbrev pub CountInItsBytes : Type 0
 CountInItsBytes = (s : State) (k : ℕ) → stateBytes (withCount k s) ≡ take 8 (stateBytes s) ++ lowFirst 4 k
+
+-- And so from C: a step over the bytes of a state with any count below the limit shows what the state shows, and leaves the bytes of the state that
+-- follows, with one more counted.
+abbrev pub LongRunsAreShown : Type 0
+LongRunsAreShown =
+    (d : Display) (s t : State) (x : Inputs) (o : Outputs) (k : ℕ) (rest buffer : List ℕ) → stepOf s x ≡ Next t o → k < mostCycles → d .size ≤ length buffer
+    → StepCall d x (stateBytes (withCount k s) ++ rest) buffer 0 (stateBytes (withCount (k + 1) t) ++ rest)
+    (cycleStored d (record { inputs = x; outputs = o }) buffer)
