@@ -13,7 +13,7 @@ use borrow.Author.Tests.{leb-true, ltb-true}
 use lib.Dec.{eqb, leb, ltb}
 use lib.ListN.{getD}
 use Rattle.rules.specs.declared.Refusal.{Refusal}
-use Rattle.rules.specs.declared.Refusal.the-variants.{Masters, Header, Shape, Value, NotBuilt, Absent, Owner, Full, Short, State, Nobody}
+use Rattle.rules.specs.declared.Refusal.the-variants.{Masters, Header, Shape, Value, NotBuilt, Absent, Owner, Full, Short, State, Nobody, Dump, Time, Variable}
 use Rattle.rules.specs.Refusals.{numberOf}
 use Rattle.rulebook.specs.declared.Rule.{Rule}
 use Rattle.rulebook.specs.declared.Rule.the-variants.{A1, A2, A3, A4, A5, A6, A7, A8, A9, G1, G2, G3, G4, G5, G6, G7, G8, G9, G10, G11, G12}
@@ -62,7 +62,7 @@ rule-same q r l i = sym (ap (λ k. k .0) (rule-known q)) ∙ ap₂ ruleAt l i �
 abbrev refusalAt : ℕ → Refusal
 refusalAt number =
     getD
-    (Masters ∷ Header ∷ Shape ∷ Value ∷ NotBuilt ∷ Absent ∷ Owner ∷ Full ∷ Short ∷ State ∷ Nobody ∷ [])
+    (Masters ∷ Header ∷ Shape ∷ Value ∷ NotBuilt ∷ Absent ∷ Owner ∷ Full ∷ Short ∷ State ∷ Nobody ∷ Dump ∷ Time ∷ Variable ∷ [])
     (number - 1)
     Masters
 
@@ -78,6 +78,9 @@ refusal-known Full = refl
 refusal-known Short = refl
 refusal-known State = refl
 refusal-known Nobody = refl
+refusal-known Dump = refl
+refusal-known Time = refl
+refusal-known Variable = refl
 
 pub refusal-some : (r : Refusal) → 0 < numberOf r
 refusal-some r = ltb-true 0 (numberOf r) (ap (λ k. k .1 .0) (refusal-known r))

@@ -66,6 +66,9 @@ some refusal.Full = omega arith
 some refusal.Short = omega arith
 some refusal.State = omega arith
 some refusal.Nobody = omega arith
+some refusal.Dump = omega arith
+some refusal.Time = omega arith
+some refusal.Variable = omega arith
 
 pub step-short-state : (d : Display) (S L : List ℕ) (x : Inputs) → length S < 12 → StepCall d x S L 9 S L
 step-short-state d S L x h = let e = short-state d S L x h in (rw e, rw e, rw e)

@@ -58,6 +58,9 @@ some-number refusal.Full e = omega arith
 some-number refusal.Short e = omega arith
 some-number refusal.State e = omega arith
 some-number refusal.Nobody e = omega arith
+some-number refusal.Dump e = omega arith
+some-number refusal.Time e = omega arith
+some-number refusal.Variable e = omega arith
 
 pub taken-only-then : TakenOnlyThen
 taken-only-then s x e = go (outcome s x)

@@ -1,4 +1,4 @@
--- The refusals and their numbers: the table "Refusal numbers" of document 01.
+-- The refusals and their numbers: the table "Refusal numbers" of document 01, and 12, 13, 14 of request T-01.
 --
 --   numberOf r      == the number of the refusal r
 --   answerOf a      == the number that a step answers: 0, or that of its refusal
@@ -42,6 +42,12 @@ numberOf refusal.Short = 9
 numberOf refusal.State = 10
 -- a decision with a request high finds no master
 numberOf refusal.Nobody = 11
+-- the header of a dump is not ours, or the input is empty
+numberOf refusal.Dump = 12
+-- a time of a dump that does not rise by one from 0
+numberOf refusal.Time = 13
+-- a value of a variable that the dump does not have
+numberOf refusal.Variable = 14
 
 abbrev pub answerOf : Answer → ℕ
 answerOf (Next s o) = 0

@@ -149,7 +149,7 @@ asked =
     ∷ refuses 5 well (lines 0x8 0 1 1 0)
     ∷ []
 
--- the page's table "Refusal numbers", from 1 on
+-- the page's table "Refusal numbers", from 1 on, and after it the numbers of the requests
 abbrev pub named : List Refusal
 named =
     refusal.Masters
@@ -163,7 +163,10 @@ named =
     ∷ refusal.Short
     ∷ refusal.State
     ∷ refusal.Nobody
+    ∷ refusal.Dump
+    ∷ refusal.Time
+    ∷ refusal.Variable
     ∷ []
 
 abbrev pub numbers : List ℕ
-numbers = 1 ∷ 2 ∷ 3 ∷ 4 ∷ 5 ∷ 6 ∷ 7 ∷ 8 ∷ 9 ∷ 10 ∷ 11 ∷ []
+numbers = 1 ∷ 2 ∷ 3 ∷ 4 ∷ 5 ∷ 6 ∷ 7 ∷ 8 ∷ 9 ∷ 10 ∷ 11 ∷ 12 ∷ 13 ∷ 14 ∷ []

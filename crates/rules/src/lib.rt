@@ -1,6 +1,6 @@
 // The types of document 01. What each of its sentences means stands in specs/, over these.
 
-// The refusals, in the order of their numbers, 1 to 11.
+// The refusals, in the order of their numbers, 1 to 14.
 pub enum Refusal {
     Masters,
     Header,
@@ -13,6 +13,9 @@ pub enum Refusal {
     Short,
     State,
     Nobody,
+    Dump,
+    Time,
+    Variable,
 }
 
 // What a test finds: nothing wrong, or the first refusal that applies.

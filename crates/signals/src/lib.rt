@@ -29,6 +29,9 @@ pub fn number(r: Refusal) -> u32
         Refusal::Short => 9,
         Refusal::State => 10,
         Refusal::Nobody => 11,
+        Refusal::Dump => 12,
+        Refusal::Time => 13,
+        Refusal::Variable => 14,
     }
 }
 
