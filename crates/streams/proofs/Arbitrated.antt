@@ -35,6 +35,7 @@ use Rattle.streams.specs.Streams.{on, done}
 use Rattle.streams.specs.Arbiter.{stepped, stimulated, arbiterTurn}
 use Rattle.streams.specs.Blocks.{asArbiter, arbiterStretch, bytesOf}
 use Rattle.streams.specs.Turns.{over, bytesIn, stateAfter, Put, Lined}
+use Rattle.streams.proofs.Lines.{stepping}
 use Rattle.streams.proofs.Near.{arbiter-by-lines}
 use Rattle.streams.proofs.Sizes.{refused-size, went, ended}
 use Rattle.streams.proofs.Stretches.{Program, Ended}
@@ -110,7 +111,7 @@ unfolding arbiterTurn
 stays s rest f = stays-read s f (readStimulusOf (s .n) rest 0)
 
 pub arbiter-program : Program arbiterTurn 16 31 WellFormed
-arbiter-program = record { lines = arbiter-by-lines; few = few-bytes; stays = stays }
+arbiter-program = record { longest = 16; lines = stepping arbiter-by-lines; few = few-bytes; stays = stays }
 
 module _ {s₀ : State} {block out₀ : List ℕ} {s : State} {out : List ℕ} {w : ℕ} where
   pub block-stopped : Ended arbiterTurn s₀ block out₀ done s out w

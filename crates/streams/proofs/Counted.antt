@@ -32,16 +32,17 @@ use Rattle.streams.specs.declared.Tally.{Tally}
 use Rattle.streams.specs.Streams.{Turn, goes, stops, Stretch, on, done, before, stretch}
 use Rattle.streams.specs.Arbiter.{stepped, stimulated, arbiterTurn}
 use Rattle.streams.specs.Judging.{judgedTo, traced, judgeTurn}
-use Rattle.streams.specs.Blocks.{ByLines}
+use Rattle.streams.specs.Blocks.{Stepping}
 
 abbrev pub Counting : {S : Type 0} → (S → ℕ) → (S → List ℕ → Turn S) → Type 0
 Counting count turn =
     (s : _) (rest bytes : List ℕ) (t : _) (k : ℕ) → turn s rest ≡ goes bytes t k → (count t ≡ count s + 1) × (count t ≤ mostCycles)
 
-module _ {S : Type 0} (turn : S → List ℕ → Turn S) (w : ℕ) (L : ByLines w turn) (count : S → ℕ) (counts : Counting count turn) where
+module _ {S : Type 0} (turn : S → List ℕ → Turn S) {least most : ℕ} (L : Stepping least most turn) (count : S → ℕ) (counts : Counting count turn) where
   pub record Used (s t : S) (block : List ℕ) : Type 0 where
     pub lines : ℕ
-    pub size : length block ≡ lines * w
+    pub at-least : lines * least ≤ length block
+    pub at-most : length block ≤ lines * most
     pub counted : count t ≡ count s + lines
     -- no more than there may be: if some were taken, or if there were no more before
     pub some : 1 ≤ lines → count t ≤ mostCycles
@@ -53,7 +54,8 @@ module _ {S : Type 0} (turn : S → List ℕ → Turn S) (w : ℕ) (L : ByLines 
       rw same
       (record {
         lines = 0;
-        size = omega arith;
+        at-least = omega arith;
+        at-most = omega arith;
         counted = omega arith;
         some = λ h. absurd (omega arith);
         room = λ h. h;
@@ -84,7 +86,8 @@ module _ {S : Type 0} (turn : S → List ℕ → Turn S) (w : ℕ) (L : ByLines 
           let r = later u k m (omega arith) q in
           record {
             lines = suc (r .lines);
-            size = omega (arith, r .size);
+            at-least = omega (arith, r .at-least);
+            at-most = omega (arith, r .at-most);
             counted = omega (arith, r .counted);
             some = λ h. r .room (c .1);
             room = λ h. r .room (c .1);

@@ -1,19 +1,19 @@
 -- Wherever the blocks are cut, the same bytes are written.
 --
 --   enough         == more turns than there are bytes write no more
---   cut            == a whole block, and then the rest
+--   cut            == a block that may be cut, and then the rest
 --   tail           == a last block, which may be cut, and then the end
---   in-blocks      == any number of whole blocks and a last one
+--   in-blocks      == any number of blocks that may be cut, and a last one
 use Prim.Native.Nat.{ℕ, zero, suc, _+_, _*_, _≤_, _<_}
 use mathlib.Core.Path.{_≡_, refl, _∙_, ap}
 use mathlib.Core.List.{List, [], _∷_, _++_, append-assoc}
 use native.Mathlib.Omega.{arith}
 use lib.ListN.{length, drop, length-append, length-drop}
 use lib.Seq.{drop-append-le}
-use Rattle.streams.specs.Streams.{Turn, goes, stops, onward, written, Stretch, on, done, before, step, unlessEmpty, stretch, then}
-use Rattle.streams.specs.Blocks.{ByLines, joined, inBlocks, AllWhole}
+use Rattle.streams.specs.Streams.{Turn, goes, stops, onward, written, Stretch, on, done, before, step, stretch, then}
+use Rattle.streams.specs.Blocks.{Stepping, Cutting, joined, inBlocks, AllCut}
 
-module _ {S : Type 0} (turn : S → List ℕ → Turn S) (w : ℕ) (L : ByLines w turn) where
+module _ {S : Type 0} (turn : S → List ℕ → Turn S) {least most : ℕ} (L : Stepping least most turn) {Cut : List ℕ → List ℕ → Type 0} (C : Cutting turn Cut) where
   pub enough : (k k' : ℕ) (s : S) (rest : List ℕ) → length rest < k → length rest < k' → written turn k s rest ≡ written turn k' s rest
   unfolding written
   enough zero k' s rest h h' = absurd (omega arith)
@@ -32,48 +32,32 @@ module _ {S : Type 0} (turn : S → List ℕ → Turn S) (w : ℕ) (L : ByLines 
   then-after more bytes (on l s) = append-assoc bytes l (more s)
   then-after more bytes (done l s) = refl
 
-  not-empty : (block : List ℕ) (s : S) (t : Stretch S) → 0 < length block → unlessEmpty block s t ≡ t
-  not-empty [] s t h = absurd (omega arith)
-  not-empty (b ∷ block) s t h = refl
-
   nothing : (a : List ℕ) → length a ≡ 0 → a ≡ []
   nothing [] h = refl
   nothing (b ∷ a) h = absurd (omega arith)
 
-  -- a whole block of m lines, and then the rest
-  pub cut : (m : ℕ) (k k' f : ℕ) (s : S) (a b : List ℕ) → length a ≡ m * w → length a + length b < k → length b < k' → length a ≤ f
+  -- a block that may be cut from b, and then b
+  pub cut : (k k' f : ℕ) (s : S) (a b : List ℕ) → Cut a b → length a + length b < k → length b < k' → length a ≤ f
       → written turn k s (a ++ b) ≡ then (λ t. written turn k' t b) (stretch turn f s a)
   unfolding written stretch
-  cut zero k k' f s a b size h h' l =
-      let e = nothing a (omega arith) in
-      rw e (empty f)
+  cut k k' zero s [] b c h h' l = enough k k' s b (omega arith) h'
+  cut k k' (suc f) s [] b c h h' l = enough k k' s b (omega arith) h'
+  cut k k' zero s (x ∷ a) b c h h' l = absurd (omega arith)
+  cut zero k' (suc f) s (x ∷ a) b c h h' l = absurd (omega arith)
+  cut (suc k) k' (suc f) s (x ∷ a) b c h h' l =
+      rw (C .near s (x ∷ a) b c (omega arith)) (go (turn s (x ∷ a)) refl (λ t n g. cut k k' f t (drop n (x ∷ a)) b g))
     where
-      empty : (f : ℕ) → written turn k s b ≡ then (λ t. written turn k' t b) (stretch turn f s [])
-      empty zero = enough k k' s b (omega arith) h'
-      empty (suc f) = enough k k' s b (omega arith) h'
-  cut (suc m) zero k' f s a b size h h' l = absurd (omega arith)
-  cut (suc m) (suc k) k' zero s a b size h h' l = absurd (omega (arith, L .some, long))
-    where
-      long : length a ≡ m * w + w
-      long = size ∙ omega arith
-  cut (suc m) (suc k) k' (suc f) s a b size h h' l =
-      rw (L .near s a b (omega (arith, long)), not-empty a s (step s (turn s a) (λ t n. stretch turn f t (drop n a))) (omega (arith, long, L .some)))
-      (go (turn s a) refl (λ t n g. cut m k k' f t (drop n a) b g))
-    where
-      long : length a ≡ m * w + w
-      long = size ∙ omega arith
-
-      go : (x : Turn S) → turn s a ≡ x
-          → ((t : S) (n : ℕ) → length (drop n a) ≡ m * w → length (drop n a) + length b < k → length b < k' → length (drop n a) ≤ f
-          → written turn k t (drop n a ++ b) ≡ then (λ t. written turn k' t b) (stretch turn f t (drop n a)))
-          → onward (turn s a) (λ t n. written turn k t (drop n (a ++ b))) ≡ then (λ t. written turn k' t b) (step s (turn s a) (λ t n. stretch turn f t (drop n a)))
+      go : (y : Turn S) → turn s (x ∷ a) ≡ y
+          → ((t : S) (n : ℕ) → Cut (drop n (x ∷ a)) b → length (drop n (x ∷ a)) + length b < k → length b < k' → length (drop n (x ∷ a)) ≤ f
+          → written turn k t (drop n (x ∷ a) ++ b) ≡ then (λ t. written turn k' t b) (stretch turn f t (drop n (x ∷ a))))
+          → onward (turn s (x ∷ a)) (λ t n. written turn k t (drop n (x ∷ (a ++ b)))) ≡ then (λ t. written turn k' t b) (step s (turn s (x ∷ a)) (λ t n. stretch turn f t (drop n (x ∷ a))))
       go (goes bytes t n) e later =
-          let p = L .next s a bytes t n e in
+          let p = L .next s (x ∷ a) bytes t n e in
           let pos = L .some in
-          let q : drop n (a ++ b) ≡ drop n a ++ b = drop-append-le n a b (omega arith) in
-          rw (e, q, then-after (λ t. written turn k' t b) bytes (stretch turn f t (drop n a)))
+          let q : drop n (x ∷ (a ++ b)) ≡ drop n (x ∷ a) ++ b = drop-append-le n (x ∷ a) b (omega arith) in
+          rw (e, q, then-after (λ t. written turn k' t b) bytes (stretch turn f t (drop n (x ∷ a))))
           (ap (λ (l : List ℕ). bytes ++ l)
-          (later t n (simp length-drop (omega (arith, long))) (simp length-drop (omega arith)) h' (simp length-drop (omega arith))))
+          (later t n (C .rest s (x ∷ a) b bytes t n c e) (simp length-drop (omega arith)) h' (simp length-drop (omega arith))))
       go (stops bytes) e later = rw e
 
   -- the last block ends the input
@@ -103,12 +87,12 @@ module _ {S : Type 0} (turn : S → List ℕ → Turn S) (w : ℕ) (L : ByLines 
   then-same f g e (on l s) = ap (λ (r : List ℕ). l ++ r) (e s)
   then-same f g e (done l s) = refl
 
-  pub in-blocks : (blocks : List (List ℕ)) (last : List ℕ) → AllWhole w blocks → (k : ℕ) (s : S) → length (joined blocks last) < k
+  pub in-blocks : (blocks : List (List ℕ)) (last : List ℕ) → AllCut Cut blocks last → (k : ℕ) (s : S) → length (joined blocks last) < k
       → written turn k s (joined blocks last) ≡ inBlocks turn s blocks last
   unfolding joined inBlocks
   in-blocks [] last h k s l = tail (length last) k s last l (omega arith)
   in-blocks (a ∷ blocks) last h k s l =
       let size = length-append a (joined blocks last) in
       let k' = suc (length (joined blocks last)) in
-      cut (h .0 .lines) k k' (length a) s a (joined blocks last) (h .0 .size) (omega arith) (omega arith) (omega arith)
+      cut k k' (length a) s a (joined blocks last) (h .0) (omega arith) (omega arith) (omega arith)
       ∙ then-same (λ t. written turn k' t (joined blocks last)) (λ t. inBlocks turn t blocks last) (λ t. in-blocks blocks last (h .1) k' t (omega arith)) (stretch turn (length a) s a)

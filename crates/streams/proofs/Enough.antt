@@ -25,17 +25,18 @@ use Rattle.streams.specs.declared.JudgeStretch.{JudgeStretch}
 use Rattle.streams.specs.Streams.{Turn, Stretch, on, done, stretch}
 use Rattle.streams.specs.Arbiter.{arbiterTurn}
 use Rattle.streams.specs.Judging.{judgeTurn}
-use Rattle.streams.specs.Blocks.{ByLines, arbiterRoom, asArbiter, arbiterStretch, arbiterBlockOf, tallyFormed, judgeRoom, asJudge, judgeStretch, judgeBlockOf}
+use Rattle.streams.specs.Blocks.{Stepping, arbiterRoom, asArbiter, arbiterStretch, arbiterBlockOf, tallyFormed, judgeRoom, asJudge, judgeStretch, judgeBlockOf}
 use Rattle.streams.specs.Enough.{hasStopped, BlocksAreCounted, MoreLinesStop}
+use Rattle.streams.proofs.Lines.{stepping}
 use Rattle.streams.proofs.Near.{arbiter-by-lines, judge-by-lines}
 use Rattle.streams.proofs.Counted.{Counting, Used, used, arbiter-counts, judge-counts}
 
-module _ {S : Type 0} (turn : S → List ℕ → Turn S) (w : ℕ) (L : ByLines w turn) (count : S → ℕ) (counts : Counting count turn) where
+module _ {S : Type 0} (turn : S → List ℕ → Turn S) {least most : ℕ} (L : Stepping least most turn) (count : S → ℕ) (counts : Counting count turn) where
   -- what a stretch that goes on has counted
-  whole-used : (s t : S) (block bytes : List ℕ) → stretch turn (length block) s block ≡ on bytes t → Used turn w L count counts s t block
-  whole-used s t block bytes e = used turn w L count counts (length block) s t block bytes (omega arith) e
+  pub whole-used : (s t : S) (block bytes : List ℕ) → stretch turn (length block) s block ≡ on bytes t → Used turn L count counts s t block
+  whole-used s t block bytes e = used turn L count counts (length block) s t block bytes (omega arith) e
 
-  more-stop : (s : S) (block : List ℕ) → mostCycles * w < length block → hasStopped (stretch turn (length block) s block) ≡ true
+  pub more-stop : (s : S) (block : List ℕ) → mostCycles * most < length block → hasStopped (stretch turn (length block) s block) ≡ true
   more-stop s block h = go (stretch turn (length block) s block) refl
     where
       go : (x : Stretch S) → stretch turn (length block) s block ≡ x → hasStopped x ≡ true
@@ -43,19 +44,19 @@ module _ {S : Type 0} (turn : S → List ℕ → Turn S) (w : ℕ) (L : ByLines 
       go (on bytes t) e =
           let u = whole-used s t block bytes e in
           absurd (order (u .lines) mostCycles
-          (λ few. omega (arith, u .size, mul-le-mul-right w few))
+          (λ few. omega (arith, u .at-most, mul-le-mul-right most few))
           (λ many. omega (arith, u .some (omega arith), u .counted)))
 
 pub more-lines-stop : MoreLinesStop
 more-lines-stop =
     record {
-      arbiter-lines = λ s block h. more-stop arbiterTurn 16 arbiter-by-lines (λ s. s .count) arbiter-counts s block h;
-      judge-lines = λ b block h. more-stop judgeTurn 31 judge-by-lines (λ b. b .judge .count) judge-counts b block h;
+      arbiter-lines = λ s block h. more-stop arbiterTurn (stepping arbiter-by-lines) (λ s. s .count) arbiter-counts s block h;
+      judge-lines = λ b block h. more-stop judgeTurn (stepping judge-by-lines) (λ b. b .judge .count) judge-counts b block h;
     }
 
 -- a call that answers GoesOn has taken its block: `few` and `ill` are its answers where the buffer is too short and where what was kept is not
 -- well formed
-on-only : {A P : Type 0} (flow : A → Flow) (few taken ill : A) (short formed : Bool)
+pub on-only : {A P : Type 0} (flow : A → Flow) (few taken ill : A) (short formed : Bool)
     → flow few ≡ Short → flow ill ≡ Unformed
     → flow (cond short few (cond formed taken ill)) ≡ GoesOn
     → (formed ≡ true → flow taken ≡ GoesOn → cond short few (cond formed taken ill) ≡ taken → P) → P
@@ -85,12 +86,12 @@ blocks-are-counted =
           on-only (λ (a : ArbiterStretch). a .flow) _ (asArbiter (arbiterStretch s block)) _ (ltb room (arbiterRoom block)) (wellFormed s) refl refl e
           (λ formed goes is.
           let q = arbiter-on (arbiterStretch s block) goes in
-          let u = whole-used arbiterTurn 16 arbiter-by-lines (λ s. s .count) arbiter-counts s (asArbiter (arbiterStretch s block) .state) block (q .0) (q .1) in
-          rw is (omega (arith, u .size, u .counted), u .room (facts-of s formed .room)));
+          let u = whole-used arbiterTurn (stepping arbiter-by-lines) (λ s. s .count) arbiter-counts s (asArbiter (arbiterStretch s block) .state) block (q .0) (q .1) in
+          rw is (omega (arith, u .at-least, u .at-most, u .counted), u .room (facts-of s formed .room)));
       judge-block = λ b block room e.
           on-only (λ (a : JudgeStretch). a .flow) _ (asJudge (judgeStretch b block)) _ (ltb room (judgeRoom block)) (tallyFormed b) refl refl e
           (λ formed goes is.
           let q = judge-on (judgeStretch b block) goes in
-          let u = whole-used judgeTurn 31 judge-by-lines (λ b. b .judge .count) judge-counts b (asJudge (judgeStretch b block) .tally) block (q .0) (q .1) in
-          rw is (omega (arith, u .size, u .counted), u .room (tally-room b formed)));
+          let u = whole-used judgeTurn (stepping judge-by-lines) (λ b. b .judge .count) judge-counts b (asJudge (judgeStretch b block) .tally) block (q .0) (q .1) in
+          rw is (omega (arith, u .at-least, u .at-most, u .counted), u .room (tally-room b formed)));
     }

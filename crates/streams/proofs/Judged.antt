@@ -30,6 +30,7 @@ use Rattle.streams.specs.declared.Flow.the-variants.{GoesOn, Stopped}
 use Rattle.streams.specs.Streams.{Turn, on, done}
 use Rattle.streams.specs.Judging.{breachLines, judgedTo, traced, judgeTurn}
 use Rattle.streams.specs.Blocks.{asJudge, judgeStretch, bytesOf}
+use Rattle.streams.proofs.Lines.{stepping}
 use Rattle.streams.proofs.Near.{judge-by-lines}
 use Rattle.streams.specs.Turns.{over, bytesIn, stateAfter, Put, Lined}
 use Rattle.streams.specs.Breaches.{Reported, Formed}
@@ -130,7 +131,8 @@ pub judge-program : Program judgeTurn 31 315 Formed
 unfolding judgeTurn
 judge-program =
     record {
-      lines = judge-by-lines;
+      longest = 31;
+      lines = stepping judge-by-lines;
       few = λ b rest f. few-read b f (readTraceOf (b .judge .n) rest 0);
       stays = λ b rest f. stays-read b f (readTraceOf (b .judge .n) rest 0);
     }

@@ -20,9 +20,10 @@ use Rattle.streams.specs.Streams.{Stretch, on, done}
 use Rattle.streams.specs.Blocks.{joined, flowAnswer, arbiterRoom, asArbiter, arbiterStretch, arbiterBlockOf, arbiterBlockLeft, tallyFormed, judgeRoom, asJudge, judgeStretch, judgeBlockOf, judgeBlockLeft}
 use Rattle.streams.specs.Promises.{ArbiterInBlocks, JudgeInBlocks, RefusedBlocksKept}
 use Rattle.streams.proofs.Cut.{in-blocks}
+use Rattle.streams.proofs.Lines.{stepping, cutting, all-cut}
 use Rattle.streams.proofs.Near.{arbiter-by-lines, judge-by-lines}
 
-shorter : (s rest : List ℕ) (next : ℕ) → drop next s ≡ rest → length rest < suc (length s)
+pub shorter : (s rest : List ℕ) (next : ℕ) → drop next s ≡ rest → length rest < suc (length s)
 shorter s rest next e = omega (arith, ap length e, length-drop next s)
 
 pub arbiter-in-blocks : ArbiterInBlocks
@@ -30,16 +31,16 @@ unfolding arbiterProgram
 arbiter-in-blocks s n next blocks last e f h =
     rw (e, f)
     (ap (λ (l : List ℕ). header Trace n ++ l)
-    (in-blocks arbiterTurn 16 arbiter-by-lines blocks last h (suc (length s)) (resetState n) (shorter s (joined blocks last) next f)))
+    (in-blocks arbiterTurn (stepping arbiter-by-lines) (cutting arbiter-by-lines) blocks last (all-cut 16 blocks last h) (suc (length s)) (resetState n) (shorter s (joined blocks last) next f)))
 
 pub judge-in-blocks : JudgeInBlocks
 unfolding judgeProgram
 judge-in-blocks s n next blocks last e f h =
-    rw (e, f) (in-blocks judgeTurn 31 judge-by-lines blocks last h (suc (length s)) (startTally n) (shorter s (joined blocks last) next f))
+    rw (e, f) (in-blocks judgeTurn (stepping judge-by-lines) (cutting judge-by-lines) blocks last (all-cut 31 blocks last h) (suc (length s)) (startTally n) (shorter s (joined blocks last) next f))
 
 -- A call that answers `few` where the buffer is too short, `taken` where what was kept is well formed, and else `ill`; `after` is the
 -- buffer that the block leaves.
-kept : {S A : Type 0} (flow : A → Flow) (state : A → S) (few taken ill : A) (s : S) (after buffer : List ℕ) (short formed : Bool)
+pub kept : {S A : Type 0} (flow : A → Flow) (state : A → S) (few taken ill : A) (s : S) (after buffer : List ℕ) (short formed : Bool)
     → state few ≡ s → flowAnswer (flow taken) ≡ 0 → state ill ≡ s
     → (flowAnswer (flow (cond short few (cond formed taken ill))) ≡ 0 → ⊥)
     → (state (cond short few (cond formed taken ill)) ≡ s) × (cond short buffer (cond formed after buffer) ≡ buffer)

@@ -5,7 +5,7 @@
 --   begun           == a loop stands so at the start
 --   same-size, room, lent == the buffer keeps its length, and has room for one line more
 --   small, later-size == a line writes no more than that, and the buffer still has its length
---   goes-on, stopped, used-up == one line that goes on; one that stops; the end of the block
+--   goes-on, line-on, stopped, used-up == one line that goes on, and one of a fixed width; one that stops; the end of the block
 --   whole-left, inside-block, falls, ends == the test and the measure of a loop over whole lines
 use Prim.Native.Nat.{ℕ, zero, suc, _+_, _-_, _*_, _/_, _≤_, _<_}
 use mathlib.Core.Path.{_≡_, refl, sym, ap, _∙_}
@@ -22,10 +22,11 @@ use Rattle.rules.proofs.Choice.{and-left, and-right}
 use Rattle.rules.proofs.Flags.{flag-most}
 use Rattle.words.proofs.Words.{part-rest}
 use Rattle.streams.specs.Streams.{Turn, goes, stops, Stretch, on, done, before, step, stretch}
-use Rattle.streams.specs.Blocks.{ByLines, roomFor}
-use Rattle.streams.specs.Turns.{over, bytesIn, goesOn, stateAfter, Lined}
+use Rattle.streams.specs.Blocks.{Stepping, ByLines, roomFor}
+use Rattle.streams.specs.Turns.{over, bytesIn, goesOn, stateAfter, takenBy, Lined}
 use Rattle.streams.specs.Going.{whole, Going}
 use Rattle.streams.proofs.Parts.{written-on}
+use Rattle.streams.proofs.Lines.{taken}
 
 module _ {S : Type 0} where
   pub before-none : (t : Stretch S) → before [] t ≡ t
@@ -36,7 +37,7 @@ module _ {S : Type 0} where
   before-twice a b (on bytes s) = ap (λ (l : List ℕ). on l s) (sym (append-assoc a b bytes))
   before-twice a b (done bytes s) = ap (λ (l : List ℕ). done l s) (sym (append-assoc a b bytes))
 
-module _ {S : Type 0} (turn : S → List ℕ → Turn S) (width : ℕ) (L : ByLines width turn) where
+module _ {S : Type 0} (turn : S → List ℕ → Turn S) {width longest : ℕ} (L : Stepping width longest turn) where
   -- more turns than there are bytes change nothing
   enough : (k k' : ℕ) (s : S) (rest : List ℕ) → length rest ≤ k → length rest ≤ k' → stretch turn k s rest ≡ stretch turn k' s rest
   unfolding stretch
@@ -77,7 +78,8 @@ module _ {S : Type 0} (turn : S → List ℕ → Turn S) (width : ℕ) (L : ByLi
   nothing-left s (b ∷ rest) h = absurd (omega arith)
 
 pub record Program {S : Type 0} (turn : S → List ℕ → Turn S) (width most : ℕ) (Formed : S → Type 0) : Type 0 where
-  pub lines : ByLines width turn
+  pub longest : ℕ
+  pub lines : Stepping width longest turn
   pub few : (s : S) (rest : List ℕ) → Formed s → length (bytesIn (turn s rest)) ≤ most
   pub stays : (s : S) (rest : List ℕ) → Formed s → Formed (stateAfter s (turn s rest))
 
@@ -133,7 +135,7 @@ module _ {S : Type 0} {turn : S → List ℕ → Turn S} {width most : ℕ} {For
           puts = g .puts;
           is =
               g .left
-              ∙ ap (before (g .bytes)) (nothing-left turn width (M .lines) s (drop at block) (simp length-drop (omega arith)))
+              ∙ ap (before (g .bytes)) (nothing-left turn (M .lines) s (drop at block) (simp length-drop (omega arith)))
               ∙ ap (λ (l : List ℕ). on l s) (append-nil (g .bytes));
         }
 
@@ -169,14 +171,15 @@ module _ {S : Type 0} {turn : S → List ℕ → Turn S} {width most : ℕ} {For
             let k = small in
             ap length wrote ∙ length-append (g .bytes ++ bytesIn this) _ ∙ rw (length-drop, wrote-size) (omega arith)
 
-        pub goes-on : going ≡ true → Going turn width most Formed s₀ block out₀ after (at + width) later (w + k)
-        goes-on e = go this refl
+        pub goes-on : (n : ℕ) → takenBy this ≡ n → going ≡ true → Going turn width most Formed s₀ block out₀ after (at + n) later (w + k)
+        goes-on n took e = go this refl
           where
-            go : (a : Turn S) → this ≡ a → Going turn width most Formed s₀ block out₀ after (at + width) later (w + k)
-            go (goes bytes t n) q =
-                let p = M .lines .next s (drop at block) bytes t n q in
+            go : (a : Turn S) → this ≡ a → Going turn width most Formed s₀ block out₀ after (at + n) later (w + k)
+            go (goes bytes t m) q =
+                let p = M .lines .next s (drop at block) bytes t m q in
                 let is : after ≡ t = lined .state ∙ ap (stateAfter s) q in
-                let step : drop n (drop at block) ≡ drop (at + width) block = drop-drop n at block ∙ ap (λ m. drop (at + m) block) (p .0) in
+                let same : m ≡ n = ap takenBy (sym q) ∙ took in
+                let step : drop m (drop at block) ≡ drop (at + n) block = drop-drop m at block ∙ ap (λ i. drop (at + i) block) same in
                 record {
                   formed = rw (lined .state) (M .stays s (drop at block) (g .formed));
                   lines = g .lines + 1;
@@ -188,11 +191,15 @@ module _ {S : Type 0} {turn : S → List ℕ → Turn S} {width most : ℕ} {For
                   puts = wrote;
                   left =
                       g .left
-                      ∙ ap (before (g .bytes)) (line-goes turn width (M .lines) s t (drop at block) bytes n some-left q)
-                      ∙ before-twice (g .bytes) bytes (whole turn t (drop n (drop at block)))
+                      ∙ ap (before (g .bytes)) (line-goes turn (M .lines) s t (drop at block) bytes m some-left q)
+                      ∙ before-twice (g .bytes) bytes (whole turn t (drop m (drop at block)))
                       ∙ rw (q, step, is);
                 }
             go (stops bytes) q = absurd (true≢false (sym e ∙ lined .flow ∙ ap goesOn q))
+
+        -- the same for lines of one width
+        pub line-on : ByLines width turn → going ≡ true → Going turn width most Formed s₀ block out₀ after (at + width) later (w + k)
+        line-on L e = goes-on width (taken L s (drop at block) (sym (lined .flow) ∙ e)) e
 
         pub stopped : going ≡ false → Ended turn s₀ block out₀ done after later (w + k)
         stopped e = go this refl
@@ -207,7 +214,7 @@ module _ {S : Type 0} {turn : S → List ℕ → Turn S} {width most : ℕ} {For
                   puts = wrote;
                   is =
                       g .left
-                      ∙ ap (before (g .bytes)) (line-stops turn width (M .lines) s (drop at block) bytes some-left q)
+                      ∙ ap (before (g .bytes)) (line-stops turn (M .lines) s (drop at block) bytes some-left q)
                       ∙ rw (q, is);
                 }
 

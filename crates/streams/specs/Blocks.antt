@@ -1,12 +1,14 @@
--- Wherever the blocks are cut: a program that goes through whole lines, block by block, writes the same.
+-- Wherever the blocks are cut: a program that goes through whole lines or steps, block by block, writes the same.
 --
 --   Whole w a          == the block a is a whole number of lines of w bytes
+--   Stepping least most turn == a turn takes at least and at most so many bytes, which are there, and stops where nothing is left
+--   Cutting turn Cut   == the input may be cut between a and b where Cut a b holds
 --   ByLines w turn     == a turn looks at no more than the first w bytes of its input, goes on only after them, and stops where nothing is left
 --   inBlocks turn s blocks last == what is written block by block; the last one ends the input, and may be cut
 --   tallyFormed b      == what the judging program keeps is well formed
 --   flowAnswer f       == the number that a call answers which takes one block: 0, or that of its refusal
 --   arbiterBlockOf, arbiterBlockLeft, judgeBlockOf, judgeBlockLeft == the answers of the calls that take one block, and the buffer afterwards
-use Prim.Native.Nat.{ℕ, _+_, _*_, _/_, _≤_}
+use Prim.Native.Nat.{ℕ, _+_, _*_, _/_, _≤_, _<_}
 use mathlib.Core.Path.{_≡_}
 use mathlib.Core.Bool.{Bool, _&&_, cond}
 use mathlib.Core.List.{List, [], _∷_, _++_}
@@ -31,6 +33,17 @@ pub record Whole (w : ℕ) (a : List ℕ) : Type 0 where
   pub lines : ℕ
   pub size : length a ≡ lines * w
 
+-- a turn goes on only after so many bytes of its input, and stops where nothing is left
+pub record Stepping {S : Type 0} (least most : ℕ) (turn : S → List ℕ → Turn S) : Type 0 where
+  pub some : 1 ≤ least
+  pub last : (s : S) → (bytes : List ℕ) × (turn s [] ≡ stops bytes)
+  pub next : (s : S) (rest bytes : List ℕ) (t : S) (k : ℕ) → turn s rest ≡ goes bytes t k → (least ≤ k) × (k ≤ most) × (k ≤ length rest)
+
+-- before a place where the input may be cut a turn does not look beyond it, and what it leaves may be cut there too
+pub record Cutting {S : Type 0} (turn : S → List ℕ → Turn S) (Cut : List ℕ → List ℕ → Type 0) : Type 0 where
+  pub near : (s : S) (a b : List ℕ) → Cut a b → 0 < length a → turn s (a ++ b) ≡ turn s a
+  pub rest : (s : S) (a b bytes : List ℕ) (t : S) (k : ℕ) → Cut a b → turn s a ≡ goes bytes t k → Cut (drop k a) b
+
 pub record ByLines {S : Type 0} (w : ℕ) (turn : S → List ℕ → Turn S) : Type 0 where
   pub some : 1 ≤ w
   pub last : (s : S) → (bytes : List ℕ) × (turn s [] ≡ stops bytes)
@@ -47,6 +60,11 @@ module _ {S : Type 0} (turn : S → List ℕ → Turn S) where
   unfoldable pub inBlocks : S → List (List ℕ) → List ℕ → List ℕ
   inBlocks s [] last = then (λ t. written turn 1 t []) (stretch turn (length last) s last)
   inBlocks s (a ∷ blocks) last = then (λ t. inBlocks t blocks last) (stretch turn (length a) s a)
+
+-- each of them may be cut from what follows
+abbrev pub AllCut : (List ℕ → List ℕ → Type 0) → List (List ℕ) → List ℕ → Type 0
+AllCut Cut [] last = Unit {0}
+AllCut Cut (a ∷ blocks) last = Cut a (joined blocks last) × AllCut Cut blocks last
 
 -- all of them are whole
 abbrev pub AllWhole : ℕ → List (List ℕ) → Type 0

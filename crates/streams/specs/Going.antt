@@ -17,7 +17,7 @@ pub record Going {S : Type 0} (turn : S → List ℕ → Turn S) (width most : �
     (s : S) (at : ℕ) (out : List ℕ) (w : ℕ) : Type 0 where
   pub formed : Formed s
   pub lines : ℕ
-  pub place : at ≡ lines * width
+  pub place : lines * width ≤ at
   pub inside : at ≤ length block
   pub few : w ≤ lines * most
   pub bytes : List ℕ

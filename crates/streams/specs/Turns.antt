@@ -3,7 +3,7 @@
 --   over bytes buffer  == the buffer with these bytes at its start, and the rest untouched
 --   sizeOf w           == the bytes that a writer wrote
 --   Put bytes buffer k left == a writer wrote these bytes, k of them
---   bytesIn t, goesOn t, stateAfter s t == the bytes that a turn writes, whether it goes on, and the state it ends in
+--   bytesIn t, goesOn t, stateAfter s t, takenBy t == the bytes that a turn writes, whether it goes on, the state it ends in, and how many bytes it takes
 --   Lined s t ..       == the answer of a call that takes one line, and the buffer afterwards, are those of the turn t
 use Prim.Native.Nat.{ℕ}
 use mathlib.Core.Path.{_≡_}
@@ -37,6 +37,10 @@ module _ {S : Type 0} where
   abbrev pub stateAfter : S → Turn S → S
   stateAfter s (goes bytes t next) = t
   stateAfter s (stops bytes) = s
+
+  abbrev pub takenBy : Turn S → ℕ
+  takenBy (goes bytes t next) = next
+  takenBy (stops bytes) = 0
 
 pub record Lined {S : Type 0} (s : S) (t : Turn S) (buffer : List ℕ) (k : ℕ) (on : Bool) (after : S) (left : List ℕ) : Type 0 where
   pub size : k ≡ length (bytesIn t)

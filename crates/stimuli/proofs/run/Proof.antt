@@ -15,7 +15,8 @@ use Rattle.words.proofs.Words.{part-rest}
 use Rattle.streams.specs.Arbiter.{arbiterTurn}
 use Rattle.streams.specs.Going.{Going}
 use Rattle.streams.proofs.Arbitrated.{arbiter-program, block-stopped, block-used}
-use Rattle.streams.proofs.Stretches.{begun, same-size, room, lent, whole-left, inside-block, falls, ends, small, later-size, goes-on, stopped, used-up}
+use Rattle.streams.proofs.Near.{arbiter-by-lines}
+use Rattle.streams.proofs.Stretches.{begun, same-size, room, lent, whole-left, inside-block, falls, ends, small, later-size, line-on, stopped, used-up}
 use Rattle.glances.specs.Glances.{Digits}
 use Rattle.buses.specs.Buses.{stateFrom, Fit}
 use Rattle.stimuli.specs.Stops.{NotTaken}
@@ -96,7 +97,7 @@ add-at c =
     let read = s .see-stimulus .ensures .line (and-left (s .see-stimulus .result .good) _ (q .if1 .taken)) in
     let lined = line-taken _ _ _ _ _ _ _ _ _ read (c .before .before .go .ensures .0) in
     let more = inside-block 16 (c .before .before .before .before .before .before .before .before .before .before .before .before .before .before .before .before .before .before .args .block .now) (l .loop .at) (l .loop .on) (omega arith) (c .before .before .before .before .before .before .before .before .before .before .before .before .loop-test .taken) in
-    omega (arith, goes-on arbiter-program g more lined refl .inside, c .before .before .before .before .before .before .before .before .before .before .before .before .before .before .before .before .before .before .good .1 .0 .0)
+    omega (arith, line-on arbiter-program g more lined arbiter-by-lines refl .inside, c .before .before .before .before .before .before .before .before .before .before .before .before .before .before .before .before .before .before .good .1 .0 .0)
 
 add-w : tie.Need-add-w Inv-loop μ-loop
 add-w c =
@@ -119,7 +120,7 @@ loop-less c =
     let read = s .see-stimulus .ensures .line (and-left (s .see-stimulus .result .good) _ (q .if1 .taken)) in
     let lined = line-taken _ _ _ _ _ _ _ _ _ read (c .before .before .go .ensures .0) in
     let more = inside-block 16 (c .before .before .before .before .before .before .before .before .before .before .before .before .before .before .before .before .before .before .args .block .now) (l .loop .at) (l .loop .on) (omega arith) (c .before .before .before .before .before .before .before .before .before .before .before .before .loop-test .taken) in
-    falls 16 (c .before .before .before .before .before .before .before .before .before .before .before .before .before .before .before .before .before .before .args .block .now) (l .loop .at) (l .loop .on) (s .see-stimulus .result .good && ltb (l .loop .bus .count) 1000000) (omega arith) (goes-on arbiter-program g more lined refl .inside)
+    falls 16 (c .before .before .before .before .before .before .before .before .before .before .before .before .before .before .before .before .before .before .args .block .now) (l .loop .at) (l .loop .on) (s .see-stimulus .result .good && ltb (l .loop .bus .count) 1000000) (omega arith) (line-on arbiter-program g more lined arbiter-by-lines refl .inside)
 
 loop-again : tie.Need-loop-again Inv-loop μ-loop
 loop-again c =
@@ -130,7 +131,7 @@ loop-again c =
     let read = s .see-stimulus .ensures .line (and-left (s .see-stimulus .result .good) _ (q .if1 .taken)) in
     let lined = line-taken _ _ _ _ _ _ _ _ _ read (c .before .before .go .ensures .0) in
     let more = inside-block 16 (c .before .before .before .before .before .before .before .before .before .before .before .before .before .before .before .before .before .before .args .block .now) (l .loop .at) (l .loop .on) (omega arith) (c .before .before .before .before .before .before .before .before .before .before .before .before .loop-test .taken) in
-    (goes-on arbiter-program g more lined refl, c .before .before .go .ensures .1, l .loop .inv .2, λ e. absurd (true≢false (sym (q .if1 .taken) ∙ e)))
+    (line-on arbiter-program g more lined arbiter-by-lines refl, c .before .before .go .ensures .1, l .loop .inv .2, λ e. absurd (true≢false (sym (q .if1 .taken) ∙ e)))
 
 loop-less-2 : tie.Need-loop-less-2 Inv-loop μ-loop
 loop-less-2 c = ends 16 (c .before .before .before .before .before .before .before .before .before .before .before .before .args .block .now) (c .before .before .before .before .before .before .before .loop .at) (c .before .before .before .before .before .before .before .loop .on) _ (c .before .before .before .before .before .before .loop-test .taken) (c .if1 .left)

@@ -15,7 +15,8 @@ use Rattle.streams.specs.Judging.{judgeTurn}
 use Rattle.streams.specs.Going.{Going}
 use Rattle.streams.specs.Breaches.{Formed}
 use Rattle.streams.proofs.Judged.{judge-program, block-stopped, block-used}
-use Rattle.streams.proofs.Stretches.{begun, same-size, room, lent, whole-left, inside-block, falls, ends, small, later-size, goes-on, stopped, used-up}
+use Rattle.streams.proofs.Near.{judge-by-lines}
+use Rattle.streams.proofs.Stretches.{begun, same-size, room, lent, whole-left, inside-block, falls, ends, small, later-size, line-on, stopped, used-up}
 use Rattle.glances.specs.Glances.{Digits}
 use Rattle.traces.specs.Stops.{NotTaken}
 use Rattle.traces.proofs.Taken.{good-cycle, formed-masters, line-taken, untaken, left-untaken}
@@ -94,7 +95,7 @@ add-at c =
     let read = s .see-trace .ensures .line (and-left (s .see-trace .result .good) _ (q .if1 .taken)) in
     let lined = line-taken _ _ (g .formed) _ _ _ _ _ _ _ read (c .before .before .before .before .go .ensures) in
     let more = inside-block 31 (c .before .before .before .before .before .before .before .before .before .before .before .before .before .before .before .before .before .before .before .args .block .now) (l .loop .at) (l .loop .on) (omega arith) (c .before .before .before .before .before .before .before .before .before .before .before .before .before .before .loop-test .taken) in
-    omega (arith, goes-on judge-program g more lined refl .inside, c .before .before .before .before .before .before .before .before .before .before .before .before .before .before .before .before .before .before .before .good .1 .0 .0)
+    omega (arith, line-on judge-program g more lined judge-by-lines refl .inside, c .before .before .before .before .before .before .before .before .before .before .before .before .before .before .before .before .before .before .before .good .1 .0 .0)
 
 loop-less : tie.Need-loop-less Inv-loop μ-loop
 loop-less c =
@@ -105,7 +106,7 @@ loop-less c =
     let read = s .see-trace .ensures .line (and-left (s .see-trace .result .good) _ (q .if1 .taken)) in
     let lined = line-taken _ _ (g .formed) _ _ _ _ _ _ _ read (c .before .before .before .before .go .ensures) in
     let more = inside-block 31 (c .before .before .before .before .before .before .before .before .before .before .before .before .before .before .before .before .before .before .before .args .block .now) (l .loop .at) (l .loop .on) (omega arith) (c .before .before .before .before .before .before .before .before .before .before .before .before .before .before .loop-test .taken) in
-    falls 31 (c .before .before .before .before .before .before .before .before .before .before .before .before .before .before .before .before .before .before .before .args .block .now) (l .loop .at) (l .loop .on) (s .see-trace .result .good && ltb (l .loop .tally .judge .count) 1000000) (omega arith) (goes-on judge-program g more lined refl .inside)
+    falls 31 (c .before .before .before .before .before .before .before .before .before .before .before .before .before .before .before .before .before .before .before .args .block .now) (l .loop .at) (l .loop .on) (s .see-trace .result .good && ltb (l .loop .tally .judge .count) 1000000) (omega arith) (line-on judge-program g more lined judge-by-lines refl .inside)
 
 loop-again : tie.Need-loop-again Inv-loop μ-loop
 loop-again c =
@@ -116,7 +117,7 @@ loop-again c =
     let read = s .see-trace .ensures .line (and-left (s .see-trace .result .good) _ (q .if1 .taken)) in
     let lined = line-taken _ _ (g .formed) _ _ _ _ _ _ _ read (c .before .before .before .before .go .ensures) in
     let more = inside-block 31 (c .before .before .before .before .before .before .before .before .before .before .before .before .before .before .before .before .before .before .before .args .block .now) (l .loop .at) (l .loop .on) (omega arith) (c .before .before .before .before .before .before .before .before .before .before .before .before .before .before .loop-test .taken) in
-    (goes-on judge-program g more lined refl, l .loop .inv .1, λ e. absurd (true≢false (sym (q .if1 .taken) ∙ e)))
+    (line-on judge-program g more lined judge-by-lines refl, l .loop .inv .1, λ e. absurd (true≢false (sym (q .if1 .taken) ∙ e)))
 
 loop-less-2 : tie.Need-loop-less-2 Inv-loop μ-loop
 loop-less-2 c = ends 31 (c .before .before .before .before .before .before .before .before .before .before .before .before .args .block .now) (c .before .before .before .before .before .before .before .before .loop .at) (c .before .before .before .before .before .before .before .before .loop .on) _ (c .before .before .before .before .before .before .before .loop-test .taken) (c .if1 .left)
