@@ -35,7 +35,7 @@ use Rattle.streaming.specs.Heads.{headRoom, arbiterHeaded, arbiterHeadOf}
 use Rattle.streaming.proofs.Headed.{header-good}
 use Rattle.console.specs.declared.Ending.{Ending}
 use Rattle.console.specs.declared.Ending.the-variants.{Refused as Ended}
-use Rattle.console.specs.Going.{goesOnAfter, Onward, Lent}
+use Rattle.console.specs.Going.{goesOnAfter, Lines, Onward, Lent}
 use Rattle.console.specs.Ends.{endingOf, isOn, Came}
 use Rattle.console.specs.Ran.{Ran, Begins, begun, refused}
 use Rattle.console.proofs.Ends.{came}
@@ -71,7 +71,7 @@ module _ (s : State) (block : List ℕ) where
 
 -- a program that went on
 pub formed-on : (s t : State) (k k' : ℕ) (old new : List ℕ) → 16 ≤ length old → 16 ≤ length new → k < 16 → wellFormed s ≡ true
-    → Onward arbiterTurn 16 s (take k old) t (take k' new)
+    → Onward arbiterTurn (Lines 16) s (take k old) t (take k' new)
     → (wellFormed t ≡ true) × (k' < 16) × (s .count * 16 + k < t .count * 16 + k') × (t .count ≤ mostCycles)
 formed-on s t k k' old new h h' below formed o =
     let n = onwards.nearer arbiterTurn 16 arbiter-by-lines (λ s. s .count) arbiter-counts s t k k' old new h h' below (facts-of s formed .room) o in
@@ -102,17 +102,17 @@ module _ (head : List ℕ) (room : ℕ) (a : ArbiterHead) (is : a ≡ arbiterHea
       let many = leb-true (h .0) mostMasters (and-right (leb fewestMasters (h .0)) (leb (h .0) mostMasters) ok) in
       rw (h .3) (arbiter-stays-formed .0 (h .0) few many)
 
-  pub begins : (w : ℕ) (s : State) (e : Ending) → a ≡ Begun w s → Ran noBreach arbiterTurn 16 s e
-      → Begins noBreach arbiterTurn 16 resetState e (readHeaderOf Stim head)
+  pub begins : (w : ℕ) (s : State) (e : Ending) → a ≡ Begun w s → Ran noBreach arbiterTurn (Lines 16) s e
+      → Begins noBreach arbiterTurn (Lines 16) resetState e (readHeaderOf Stim head)
   begins w s e f ran = let h = accepted w s f in rw (h .2) (begun (rw (h .3) at ran))
 
-  pub refuses : (w : ℕ) (e : Ending) → a ≡ Refused w → e ≡ Ended → Begins noBreach arbiterTurn 16 resetState e (readHeaderOf Stim head)
+  pub refuses : (w : ℕ) (e : Ending) → a ≡ Refused w → e ≡ Ended → Begins noBreach arbiterTurn (Lines 16) resetState e (readHeaderOf Stim head)
   refuses w e f g =
-      taken (λ h. h ≡ Refused w → Begins noBreach arbiterTurn 16 resetState e (readHeaderOf Stim head))
+      taken (λ h. h ≡ Refused w → Begins noBreach arbiterTurn (Lines 16) resetState e (readHeaderOf Stim head))
       (λ q. let z : _≡_ {A = ℕ} 0 1 = cc in absurd (omega arith))
       (go (readHeaderOf Stim head))
       f
     where
-      go : (h : HeaderRead) → arbiterHeaded h ≡ Refused w → Begins noBreach arbiterTurn 16 resetState e h
+      go : (h : HeaderRead) → arbiterHeaded h ≡ Refused w → Begins noBreach arbiterTurn (Lines 16) resetState e h
       go (Header n next) q = let z : _≡_ {A = ℕ} 0 1 = cc in absurd (omega arith)
       go (Unread r) q = refused g

@@ -15,7 +15,7 @@ ghost use Rattle.streams.specs.Blocks.{arbiterRoom, arbiterStretch};
 ghost use Rattle.streams.specs.Stays.{kept as keptAfter};
 ghost use Rattle.console.specs.declared.Fed.the-variants.{More};
 ghost use Rattle.console.specs.Fed.{Fill};
-ghost use Rattle.console.specs.Going.{Lent};
+ghost use Rattle.console.specs.Going.{Lines, Lent};
 ghost use Rattle.console.specs.Ends.{EndsAfter, Came};
 ghost use Rattle.console.specs.Ran.{Turned, Ran, Begins};
 ghost use Rattle.arbiter.specs.Breaches.{noBreach};
@@ -88,7 +88,7 @@ fn take_last(s: State, block: &[u8], out: &mut [u8]) -> After
 // One read, behind the bytes that are kept.
 fn turn(s: State, kept: usize, block: &mut [u8], out: &mut [u8]) -> After
     requires { ⌜ (wellFormed s ≡ true) × Lent 16 31 (length (now block)) (length (now out)) × (kept < 16) ⌝ }
-    ensures { λ r. ⌜ Turned noBreach arbiterTurn 16 s (front kept (now (block .entry))) (r .on) (r .state) (front (r .kept) (now (block .exit))) (r .ending) ⌝ }
+    ensures { λ r. ⌜ Turned noBreach arbiterTurn (Lines 16) s (front kept (now (block .entry))) (r .on) (r .state) (front (r .kept) (now (block .exit))) (r .ending) ⌝ }
 {
     match console::read_on(kept, block) {
         Fed::More(n) => go_on(s, n, block, out),
@@ -105,7 +105,7 @@ fn turn(s: State, kept: usize, block: &mut [u8], out: &mut [u8]) -> After
 // Read after read, with no bound on their number: each one that goes on brings a byte at least, and the line after 1,000,000 stops the program.
 fn run(start: State, block: &mut [u8], out: &mut [u8]) -> Ending
     requires { ⌜ (wellFormed start ≡ true) × Lent 16 31 (length (now block)) (length (now out)) ⌝ }
-    ensures { λ r. ⌜ Ran noBreach arbiterTurn 16 start r ⌝ }
+    ensures { λ r. ⌜ Ran noBreach arbiterTurn (Lines 16) start r ⌝ }
 {
     let mut state = start;
     let mut kept = 0;
@@ -123,7 +123,7 @@ fn run(start: State, block: &mut [u8], out: &mut [u8]) -> Ending
 // The header, and the lines after one that is accepted.
 fn start(n: usize, block: &mut [u8], out: &mut [u8]) -> Ending
     requires { ⌜ Lent 16 31 (length (now block)) (length (now out)) ⌝ }
-    ensures { λ r. ⌜ Begins noBreach arbiterTurn 16 resetState r (readHeaderOf Stim (front n (now (block .entry)))) ⌝ }
+    ensures { λ r. ⌜ Begins noBreach arbiterTurn (Lines 16) resetState r (readHeaderOf Stim (front n (now (block .entry)))) ⌝ }
 {
     match streaming::arbiter_head(console::first(n, block), out) {
         ArbiterHead::Begun(w, s) => {

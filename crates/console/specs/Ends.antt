@@ -8,11 +8,9 @@
 use Prim.Native.Nat.{ℕ}
 use mathlib.Core.Path.{_≡_}
 use mathlib.Core.Bool.{Bool, true, false, _&&_, cond}
-use mathlib.Core.List.{List, _++_}
 use lib.Dec.{eqb}
-use lib.ListN.{length}
 use Rattle.streams.specs.declared.Flow.{Flow}
-use Rattle.streams.specs.Streams.{Turn, Stretch, on, done, stretch}
+use Rattle.streams.specs.Streams.{Stretch, on, done}
 use Rattle.console.specs.declared.Ending.{Ending}
 use Rattle.console.specs.declared.Ending.the-variants.{Done, Breaches, Refused, Unread, Unwritten}
 use Rattle.console.specs.Going.{goesOnAfter}

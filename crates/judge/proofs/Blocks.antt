@@ -35,7 +35,7 @@ use Rattle.streaming.specs.Heads.{headRoom, judgeHeaded, judgeHeadOf}
 use Rattle.streaming.proofs.Headed.{header-good}
 use Rattle.console.specs.declared.Ending.{Ending}
 use Rattle.console.specs.declared.Ending.the-variants as ending
-use Rattle.console.specs.Going.{goesOnAfter, Onward, Lent}
+use Rattle.console.specs.Going.{goesOnAfter, Lines, Onward, Lent}
 use Rattle.console.specs.Ends.{isOn, endOf, Came}
 use Rattle.console.specs.Ran.{Ran, Begins, begun, refused, unwritten}
 use Rattle.console.proofs.Ends.{came}
@@ -75,7 +75,7 @@ module _ (b : Tally) (block : List ℕ) where
   stays t l h e = rw e (tally-stays-formed .1 b block l h)
 
 pub nearer : (b t : Tally) (k k' : ℕ) (old new : List ℕ) → 31 ≤ length old → 31 ≤ length new → k < 31 → tallyFormed b ≡ true
-    → Onward judgeTurn 31 b (take k old) t (take k' new)
+    → Onward judgeTurn (Lines 31) b (take k old) t (take k' new)
     → (k' < 31) × (b .judge .count * 31 + k < t .judge .count * 31 + k') × (t .judge .count ≤ mostCycles)
 nearer b t k k' old new h h' below formed o =
     onwards.nearer judgeTurn 31 judge-by-lines (λ b. b .judge .count) judge-counts b t k k' old new h h' below (tally-room b formed) o
@@ -107,7 +107,7 @@ module _ (head : List ℕ) (room : ℕ) (a : JudgeStretch) (is : a ≡ judgeHead
     fails false n p = refl
 
     ends : (given : Bool) (h : HeaderRead) (r : Refusal) → h ≡ Unread r → e ≡ cond given ending.Refused ending.Unwritten
-        → Begins named judgeTurn 31 startTally e h
+        → Begins named judgeTurn (Lines 31) startTally e h
     ends true h r q p = rw q (refused p)
     ends false h r q p = unwritten p
 
@@ -122,16 +122,16 @@ module _ (head : List ℕ) (room : ℕ) (a : JudgeStretch) (is : a ≡ judgeHead
             rw (sorted (Header n next) q .1) (tally-stays-formed .0 n few many)
         go (Unread r) q = let c = sorted (Unread r) q .0 in stops (c .given) (sym (c .flow) ∙ g)
 
-    pub begins : (f : Ending) → goes ≡ true → Ran named judgeTurn 31 t f → Begins named judgeTurn 31 startTally f (readHeaderOf Trace head)
+    pub begins : (f : Ending) → goes ≡ true → Ran named judgeTurn (Lines 31) t f → Begins named judgeTurn (Lines 31) startTally f (readHeaderOf Trace head)
     begins f g ran = go (readHeaderOf Trace head) refl
       where
-        go : (h : HeaderRead) → readHeaderOf Trace head ≡ h → Begins named judgeTurn 31 startTally f (readHeaderOf Trace head)
+        go : (h : HeaderRead) → readHeaderOf Trace head ≡ h → Begins named judgeTurn (Lines 31) startTally f (readHeaderOf Trace head)
         go (Header n next) q = rw q (begun (rw (sorted (Header n next) q .1) at ran))
         go (Unread r) q = let c = sorted (Unread r) q .0 in stops (c .given) (sym (c .flow) ∙ g)
 
-    pub refuses : goes ≡ false → Begins named judgeTurn 31 startTally e (readHeaderOf Trace head)
+    pub refuses : goes ≡ false → Begins named judgeTurn (Lines 31) startTally e (readHeaderOf Trace head)
     refuses g = go (readHeaderOf Trace head) refl
       where
-        go : (h : HeaderRead) → readHeaderOf Trace head ≡ h → Begins named judgeTurn 31 startTally e (readHeaderOf Trace head)
+        go : (h : HeaderRead) → readHeaderOf Trace head ≡ h → Begins named judgeTurn (Lines 31) startTally e (readHeaderOf Trace head)
         go (Header n next) q = let c = sorted (Header n next) q .0 in unwritten (c .ending ∙ fails (c .given) n (sym (c .flow) ∙ g))
         go (Unread r) q = let c = sorted (Unread r) q .0 in ends (c .given) (readHeaderOf Trace head) r q (c .ending)

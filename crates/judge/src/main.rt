@@ -13,7 +13,7 @@ ghost use Rattle.formats.specs.Headers.{readHeaderOf};
 ghost use Rattle.streams.specs.Judging.{startTally, judgeTurn};
 ghost use Rattle.streams.specs.Blocks.{tallyFormed, judgeRoom, judgeStretch};
 ghost use Rattle.streams.specs.Stays.{kept as keptAfter};
-ghost use Rattle.console.specs.Going.{Lent};
+ghost use Rattle.console.specs.Going.{Lines, Lent};
 ghost use Rattle.console.specs.Ends.{EndsAfter, Came};
 ghost use Rattle.console.specs.Ran.{Turned, Ran, Begins};
 ghost use Rattle.judge.specs.Breaches.{named, Answered};
@@ -111,7 +111,7 @@ fn take_last(b: Tally, block: &[u8], out: &mut [u8]) -> After
 // One read, behind the bytes that are kept.
 fn turn(b: Tally, kept: usize, block: &mut [u8], out: &mut [u8]) -> After
     requires { ⌜ (tallyFormed b ≡ true) × Lent 31 315 (length (now block)) (length (now out)) × (kept < 31) ⌝ }
-    ensures { λ r. ⌜ Turned named judgeTurn 31 b (front kept (now (block .entry))) (r .on) (r .tally) (front (r .kept) (now (block .exit))) (r .ending) ⌝ }
+    ensures { λ r. ⌜ Turned named judgeTurn (Lines 31) b (front kept (now (block .entry))) (r .on) (r .tally) (front (r .kept) (now (block .exit))) (r .ending) ⌝ }
     ensures { λ r. ⌜ (r .on ≡ true → tallyFormed (r .tally) ≡ true) ⌝ }
 {
     match console::read_on(kept, block) {
@@ -129,7 +129,7 @@ fn turn(b: Tally, kept: usize, block: &mut [u8], out: &mut [u8]) -> After
 // Read after read, with no bound on their number: each one that goes on brings a byte at least, and the line after 1,000,000 stops the program.
 fn run(start: Tally, block: &mut [u8], out: &mut [u8]) -> Ending
     requires { ⌜ (tallyFormed start ≡ true) × Lent 31 315 (length (now block)) (length (now out)) ⌝ }
-    ensures { λ r. ⌜ Ran named judgeTurn 31 start r ⌝ }
+    ensures { λ r. ⌜ Ran named judgeTurn (Lines 31) start r ⌝ }
 {
     let mut tally = start;
     let mut kept = 0;
@@ -147,7 +147,7 @@ fn run(start: Tally, block: &mut [u8], out: &mut [u8]) -> Ending
 // The header, and the lines after one that is accepted.
 fn start(n: usize, block: &mut [u8], out: &mut [u8]) -> Ending
     requires { ⌜ Lent 31 315 (length (now block)) (length (now out)) ⌝ }
-    ensures { λ r. ⌜ Begins named judgeTurn 31 startTally r (readHeaderOf Trace (front n (now (block .entry)))) ⌝ }
+    ensures { λ r. ⌜ Begins named judgeTurn (Lines 31) startTally r (readHeaderOf Trace (front n (now (block .entry)))) ⌝ }
 {
     let a = streaming::judge_head(console::first(n, block), out);
     let t = give(a, out);

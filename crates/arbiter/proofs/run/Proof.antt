@@ -9,7 +9,7 @@ use lib.ListN.{length, take}
 use Rattle.rules.specs.Codes.{mostCycles}
 use Rattle.rules.specs.State.{wellFormed}
 use Rattle.streams.specs.Arbiter.{arbiterTurn}
-use Rattle.console.specs.Going.{Onwards, still, further}
+use Rattle.console.specs.Going.{Lines, Onwards, still, further}
 use Rattle.console.proofs.Onwards.{again}
 use Rattle.arbiter.proofs.Blocks.{formed-on}
 use Rattle.arbiter.proofs.run.Statement.{statement}
@@ -21,7 +21,7 @@ Inv-loop block₀ out₀ state₀ kept₀ block out state kept =
     × (length out ≡ length out₀)
     × (wellFormed state ≡ true)
     × (kept < 16)
-    × Onwards arbiterTurn 16 state₀ [] state (take kept block)
+    × Onwards arbiterTurn (Lines 16) state₀ [] state (take kept block)
 
 abbrev μ-loop : tie.MeasureT-loop
 μ-loop block₀ out₀ state₀ kept₀ block out state kept = (mostCycles + 1) * 16 - (state .count * 16 + kept)

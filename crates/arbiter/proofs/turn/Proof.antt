@@ -2,7 +2,8 @@
 use mathlib.Core.Path.{refl}
 use native.Mathlib.Omega.{arith}
 use borrow.Author.Needs.{needs}
-use Rattle.console.proofs.Onwards.{again, free, went, last-closes, unread-closes}
+use Rattle.console.specs.Going.{Lines}
+use Rattle.console.proofs.Onwards.{again, free, lines-went, last-closes, unread-closes}
 use Rattle.arbiter.proofs.Blocks.{roomy}
 use Rattle.arbiter.proofs.turn.Statement.{statement}
 use Rattle.arbiter.proofs.turn.Tie as tie
@@ -51,7 +52,7 @@ returns c =
     let r = n .before .before .before .before in
     let e = g .go-on .ensures in
     rw (e .1 .1 .0)
-    (went _ _ 16 (omega arith) _ _ _ _ _ _ _ _ _ (rw (n .n .given .1) at (r .read-on .ensures)) (e .1 .1 .1) (e .0) (e .1 .0))
+    (lines-went _ _ 16 (omega arith) _ _ _ _ _ _ _ _ _ (rw (n .n .given .1) at (r .read-on .ensures)) (e .1 .1 .1) (e .0) (e .1 .0))
 
 same-length-3 : tie.Need-same-length-3
 same-length-3 c = search needs
@@ -66,13 +67,13 @@ returns-2 c =
     let n = f .before .before .before in
     let r = n .before .before .before .before in
     let e = t .take-last .ensures in
-    last-closes _ _ 16 _ _ _ _ _ _ _ _ _ (rw (n .n2 .given .1) at (r .read-on .ensures)) (e .0) (rw (f .first .ensures) at (e .1))
+    last-closes _ _ (Lines 16) _ _ _ _ _ _ _ _ _ (rw (n .n2 .given .1) at (r .read-on .ensures)) (e .0) (rw (f .first .ensures) at (e .1))
 
 same-length-5 : tie.Need-same-length-5
 same-length-5 c = search needs
 
 returns-3 : tie.Need-returns-3
-returns-3 c = unread-closes _ _ 16 _ _ _ _ _ refl
+returns-3 c = unread-closes _ _ (Lines 16) _ _ _ _ _ refl
 
 pub turn-spec : {M : Type 1} → statement M
 turn-spec =

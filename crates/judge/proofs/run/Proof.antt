@@ -9,7 +9,7 @@ use lib.ListN.{length, take}
 use Rattle.rules.specs.Codes.{mostCycles}
 use Rattle.streams.specs.Judging.{judgeTurn}
 use Rattle.streams.specs.Blocks.{tallyFormed}
-use Rattle.console.specs.Going.{Onwards, still, further}
+use Rattle.console.specs.Going.{Lines, Onwards, still, further}
 use Rattle.console.proofs.Onwards.{again}
 use Rattle.judge.proofs.Blocks.{nearer}
 use Rattle.judge.proofs.run.Statement.{statement}
@@ -21,7 +21,7 @@ Inv-loop block₀ out₀ tally₀ kept₀ block out tally kept =
     × (length out ≡ length out₀)
     × (tallyFormed tally ≡ true)
     × (kept < 31)
-    × Onwards judgeTurn 31 tally₀ [] tally (take kept block)
+    × Onwards judgeTurn (Lines 31) tally₀ [] tally (take kept block)
 
 abbrev μ-loop : tie.MeasureT-loop
 μ-loop block₀ out₀ tally₀ kept₀ block out tally kept = (mostCycles + 1) * 31 - (tally .judge .count * 31 + kept)

@@ -5,7 +5,8 @@ use mathlib.Core.Bool.{true≢false}
 use native.Mathlib.Omega.{arith}
 use borrow.Author.Needs.{needs}
 use lib.ListN.{take}
-use Rattle.console.proofs.Onwards.{again, free, went, last-closes, unread-closes}
+use Rattle.console.specs.Going.{Lines}
+use Rattle.console.proofs.Onwards.{again, free, lines-went, last-closes, unread-closes}
 use Rattle.judge.proofs.Blocks.{roomy, stays}
 use Rattle.judge.proofs.turn.Statement.{statement}
 use Rattle.judge.proofs.turn.Tie as tie
@@ -55,7 +56,7 @@ returns c =
     let s = r .before .before .before .before in
     let e = g .go-on .ensures in (
       rw (e .1 .1 .0)
-          (went _ _ 31 (omega arith) _ _ _ _ _ _ _ _ _ (rw (n .n .given .1) at (r .read-on .ensures)) (e .1 .1 .1) (e .0) (e .1 .0)),
+          (lines-went _ _ 31 (omega arith) _ _ _ _ _ _ _ _ _ (rw (n .n .given .1) at (r .read-on .ensures)) (e .1 .1 .1) (e .0) (e .1 .0)),
       λ on. stays _ (take (n .n .given .0 .0 - n .n .given .0 .0 % 31) (r .read-on .last .1 .0)) _ (let lost = s .good .0 .1 .1 .0 .1 .1 .1 .1 .1 .1 .1 .1 .1 .0 in search needs) (s .pre .0) (e .1 .0),
     )
 
@@ -72,7 +73,7 @@ returns-2 c =
     let n = f .before .before .before in
     let r = n .before .before .before .before in
     let e = t .take-last .ensures in (
-      last-closes _ _ 31 _ _ _ _ _ _ _ _ _ (rw (n .n2 .given .1) at (r .read-on .ensures)) (e .0) (rw (f .first .ensures) at (e .1)),
+      last-closes _ _ (Lines 31) _ _ _ _ _ _ _ _ _ (rw (n .n2 .given .1) at (r .read-on .ensures)) (e .0) (rw (f .first .ensures) at (e .1)),
       λ on. absurd (true≢false (sym on ∙ e .0)),
     )
 
@@ -80,7 +81,7 @@ same-length-5 : tie.Need-same-length-5
 same-length-5 c = search needs
 
 returns-3 : tie.Need-returns-3
-returns-3 c = (unread-closes _ _ 31 _ _ _ _ _ refl, λ on. absurd (true≢false (sym on)))
+returns-3 c = (unread-closes _ _ (Lines 31) _ _ _ _ _ refl, λ on. absurd (true≢false (sym on)))
 
 pub turn-spec : {M : Type 1} → statement M
 turn-spec =
