@@ -1,10 +1,13 @@
 -- The promises of specs/Promises.antt, each under its name.
 use Rattle.waves.specs.Promises as promise
 use Rattle.waves.proofs.StepTexts.{step-short}
-use Rattle.waves.proofs.Steps.{step-reads}
+use Rattle.waves.proofs.Steps.{step-reads, step-writes}
 
 pub steps-are-short : promise.StepsAreShort
 steps-are-short = step-short
 
 pub written-step-reads : promise.WrittenStepReads
 written-step-reads n t prev c pre post range h valid ends = step-reads prev t c n pre post range h valid ends
+
+pub read-step-writes : promise.ReadStepWrites
+read-step-writes = step-writes
