@@ -6,8 +6,10 @@
 --   up-to-rest         == a step and what stands after it are the input
 --   up-to-few          == a step has no more bytes than are looked at
 --   up-to-ends         == a step of fewer bytes ends there
+--   up-to-parted       == after LF and before `#` nothing more is looked at
+--   up-to-long         == nor after as many bytes as are looked at
 use Prim.Native.Nat.{ℕ, zero, suc, _≤_, _<_}
-use mathlib.Core.Path.{_≡_, refl, ap}
+use mathlib.Core.Path.{_≡_, refl, sym, _∙_, ap}
 use mathlib.Core.Logic.{inl, inr}
 use mathlib.Core.Bool.{Bool, false, _&&_}
 use mathlib.Core.List.{List, [], _∷_, _++_}
@@ -91,3 +93,25 @@ up-to-ends (suc k) (b ∷ s) few =
     (λ e few. inr (eqb-true (getD s 0 0) hash (and-right (eqb b lf) (eqb (getD s 0 0) hash) e)))
     (λ e few. up-to-ends k s (omega arith))
     few
+
+seen-first : (l b : List ℕ) → getD ((l ++ (lf ∷ [])) ++ b) 0 0 ≡ getD (l ++ (lf ∷ [])) 0 0
+seen-first [] b = refl
+seen-first (x ∷ l) b = refl
+
+pub up-to-parted : (k : ℕ) (l b : List ℕ) → getD b 0 0 ≡ hash → upTo k ((l ++ (lf ∷ [])) ++ b) ≡ upTo k (l ++ (lf ∷ []))
+unfolding upTo
+up-to-parted zero l b e = refl
+up-to-parted (suc k) [] b e = last-up-to k b (inr e) ∙ sym (last-up-to k [] (inl refl))
+up-to-parted (suc k) (x ∷ l) b e = rw (seen-first l b, up-to-parted k l b e)
+
+one-up-to : (x : ℕ) (s : List ℕ) → upTo 1 (x ∷ s) ≡ x ∷ []
+unfolding upTo
+one-up-to x s = cond-elim (λ l. x ∷ l ≡ x ∷ []) (parts x (getD s 0 0)) (λ e. refl) (λ e. refl)
+
+pub up-to-long : (k : ℕ) (a b : List ℕ) → k ≤ length a → upTo k (a ++ b) ≡ upTo k a
+unfolding upTo
+up-to-long zero a b h = refl
+up-to-long (suc k) [] b h = absurd (omega arith)
+up-to-long (suc zero) (x ∷ []) b h = one-up-to x b ∙ sym (one-up-to x [])
+up-to-long (suc (suc k)) (x ∷ []) b h = absurd (omega arith)
+up-to-long (suc k) (x ∷ (y ∷ a)) b h = rw (up-to-long k (y ∷ a) b (omega arith))

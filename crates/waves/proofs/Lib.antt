@@ -10,4 +10,5 @@ pub mod Unknown
 pub mod Columns
 pub mod StepTexts
 pub mod Steps
+pub mod Near
 pub mod Promises
