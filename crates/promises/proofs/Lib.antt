@@ -21,5 +21,7 @@ pub mod AnyInput
 pub mod Simulator
 pub mod JudgeCalls
 pub mod Recounted
+pub mod Drawn
+pub mod Recalled
 pub mod Wrong
 pub mod Examples

@@ -8,4 +8,5 @@ pub mod AnyInput
 pub mod Simulator
 pub mod JudgeCalls
 pub mod Recounted
+pub mod Waves
 pub mod Wrong
