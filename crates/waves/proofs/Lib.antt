@@ -11,4 +11,5 @@ pub mod Columns
 pub mod StepTexts
 pub mod Steps
 pub mod Near
+pub mod Header
 pub mod Promises

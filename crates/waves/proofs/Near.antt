@@ -20,7 +20,6 @@ use lib.Dec.{eqb, ltb}
 use lib.ListN.{length, getD, drop, length-append, length-drop}
 use Rattle.rules.specs.declared.Check.{Check}
 use Rattle.rules.specs.declared.Check.the-variants.{Good, Bad}
-use Rattle.rules.specs.declared.Refusal.the-variants as refusal
 use Rattle.rules.specs.declared.Cycle.{Cycle}
 use Rattle.rules.specs.State.{mastersOk}
 use Rattle.rules.proofs.Choice.{cond-elim, either}

@@ -2,6 +2,7 @@
 use Rattle.waves.specs.Promises as promise
 use Rattle.waves.proofs.StepTexts.{step-short}
 use Rattle.waves.proofs.Steps.{step-reads, step-writes}
+use Rattle.waves.proofs.Header.{header-reads, header-writes}
 
 pub steps-are-short : promise.StepsAreShort
 steps-are-short = step-short
@@ -11,3 +12,9 @@ written-step-reads n t prev c pre post range h valid ends = step-reads prev t c 
 
 pub read-step-writes : promise.ReadStepWrites
 read-step-writes = step-writes
+
+pub written-dump-header-reads : promise.WrittenDumpHeaderReads
+written-dump-header-reads = header-reads
+
+pub read-dump-header-writes : promise.ReadDumpHeaderWrites
+read-dump-header-writes s n next e = let h = header-writes s n next e in (h .range, h .past, h .bytes)
