@@ -23,5 +23,7 @@ pub mod JudgeCalls
 pub mod Recounted
 pub mod Drawn
 pub mod Recalled
+pub mod DumpForms
+pub mod Waves
 pub mod Wrong
 pub mod Examples

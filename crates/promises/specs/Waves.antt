@@ -5,6 +5,7 @@
 -- lower case with hyphens.
 --
 --   lastOf prev cs     == the last of the cycles cs, and prev where there is none
+--   Behind cs rest     == the last of the steps of cs, if there is one, ends before the rest
 --   DumpBegins s n cs rest == the input s is the dump of good cycles, no more than a run may have, and then the rest
 --   HasDump s f        == the input s of vcd2trace has the form f
 --   dumpOn f           == what trace2vcd writes for an input of that form
@@ -34,12 +35,17 @@ abbrev pub lastOf : Cycle → List Cycle → Cycle
 lastOf prev [] = prev
 lastOf prev (c ∷ cs) = lastOf c cs
 
+-- a step ends where nothing follows it, or a line that begins with `#`; the header ends by itself
+abbrev pub Behind : List Cycle → List ℕ → Type 0
+Behind [] rest = Unit {0}
+Behind (c ∷ cs) rest = Ends rest
+
 pub record DumpBegins (s : List ℕ) (n : ℕ) (cs : List Cycle) (rest : List ℕ) : Type 0 where
   pub masters : InRange n
   pub good : Each (ValidCycle n) cs
   pub room : length cs ≤ mostCycles
   pub bytes : s ≡ dump n cs ++ rest
-  pub ends : Ends rest
+  pub ends : Behind cs rest
 
 -- after k good steps the time is k; after 1,000,000 of them no step is good
 abbrev pub HasDump : List ℕ → Form Cycle → Type 0
