@@ -12,4 +12,5 @@ pub mod StepTexts
 pub mod Steps
 pub mod Near
 pub mod Header
+pub mod Files
 pub mod Promises

@@ -3,6 +3,7 @@ use Rattle.waves.specs.Promises as promise
 use Rattle.waves.proofs.StepTexts.{step-short}
 use Rattle.waves.proofs.Steps.{step-reads, step-writes}
 use Rattle.waves.proofs.Header.{header-reads, header-writes}
+use Rattle.waves.proofs.Files.{dump-reads, dump-writes}
 
 pub steps-are-short : promise.StepsAreShort
 steps-are-short = step-short
@@ -18,3 +19,9 @@ written-dump-header-reads = header-reads
 
 pub read-dump-header-writes : promise.ReadDumpHeaderWrites
 read-dump-header-writes s n next e = let h = header-writes s n next e in (h .range, h .past, h .bytes)
+
+pub written-dump-reads : promise.WrittenDumpReads
+written-dump-reads = dump-reads
+
+pub read-dump-writes : promise.ReadDumpWrites
+read-dump-writes s n cs e = let w = dump-writes s n cs e in (w .masters, w .valid, w .few, w .bytes)
