@@ -13,4 +13,5 @@ pub mod Steps
 pub mod Near
 pub mod Header
 pub mod Files
+pub mod Writers
 pub mod Promises

@@ -4,6 +4,7 @@ use Rattle.waves.proofs.StepTexts.{step-short}
 use Rattle.waves.proofs.Steps.{step-reads, step-writes}
 use Rattle.waves.proofs.Header.{header-reads, header-writes}
 use Rattle.waves.proofs.Files.{dump-reads, dump-writes}
+use Rattle.waves.proofs.Writers.{writes-all, written-reads, read-writes}
 
 pub steps-are-short : promise.StepsAreShort
 steps-are-short = step-short
@@ -25,3 +26,12 @@ written-dump-reads = dump-reads
 
 pub read-dump-writes : promise.ReadDumpWrites
 read-dump-writes s n cs e = let w = dump-writes s n cs e in (w .masters, w .valid, w .few, w .bytes)
+
+pub writes-the-valid : promise.WritesTheValid
+writes-the-valid = writes-all
+
+pub written-is-read : promise.WrittenIsRead
+written-is-read = written-reads
+
+pub read-is-written : promise.ReadIsWritten
+read-is-written = read-writes
