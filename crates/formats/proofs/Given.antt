@@ -77,7 +77,7 @@ inputs-give : (n : ℕ) (x : Inputs) (r : Refusal) → inputsCheck n x ≡ Bad r
 unfolding inputsCheck
 inputs-give n x r e = first-gives (inputsTooLarge x) (inputsNotBuilt x) (inputsAbsent n x) false r e
 
-line-gives : (n : ℕ) (c : Cycle) (r : Refusal) → lineCheck n c ≡ Bad r → OfALine r
+pub line-gives : (n : ℕ) (c : Cycle) (r : Refusal) → lineCheck n c ≡ Bad r → OfALine r
 unfolding lineCheck cycleCheck
 line-gives n c r =
     cond-elim (λ k. k ≡ Bad r → OfALine r) (ltb 15 (c .outputs .hmaster))

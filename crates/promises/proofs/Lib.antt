@@ -24,6 +24,7 @@ pub mod Recounted
 pub mod Drawn
 pub mod Recalled
 pub mod DumpForms
+pub mod DumpNumbers
 pub mod Waves
 pub mod Wrong
 pub mod Examples

@@ -12,10 +12,12 @@
 --   traceOn f          == what vcd2trace writes for an input of that form
 use Prim.Native.Nat.{ℕ, suc, _+_, _≤_}
 use mathlib.Core.Path.{_≡_}
+use mathlib.Core.Logic.{_⊎_}
 use mathlib.Core.List.{List, [], _∷_, _++_}
 use lib.ListN.{length}
 use Rattle.rules.specs.declared.Refusal.{Refusal}
 use Rattle.rules.specs.declared.Cycle.{Cycle}
+use Rattle.rules.specs.Refusals.{numberOf}
 use Rattle.rules.specs.Codes.{mostCycles}
 use Rattle.formats.specs.declared.HeaderRead.the-variants as head
 use Rattle.formats.specs.declared.TraceRead.the-variants as step
@@ -56,6 +58,12 @@ HasDump s (whole n cs) = DumpBegins s n cs []
 
 abbrev pub EveryDumpHasOneForm : Type 0
 EveryDumpHasOneForm = (s : List ℕ) → (f : Form Cycle) × HasDump s f × ((g : Form Cycle) → HasDump s g → g ≡ f)
+
+-- "Reading a header: 12 .. in the place of 2, then 1"; "Reading a step: 1, 13, 8, 14, 3, 4, 5, 6, 7", of which 1 is given for no header that was accepted
+pub record DumpsRefusedByNumber : Type 0 where
+  pub of-a-header : (s : List ℕ) (r : Refusal) → HasDump s (noHeader r) → (numberOf r ≡ 12) ⊎ (numberOf r ≡ 1)
+  pub of-a-step : (s : List ℕ) (n : ℕ) (cs : List Cycle) (r : Refusal) → HasDump s (cutAfter n cs r)
+      → ((3 ≤ numberOf r) × (numberOf r ≤ 8)) ⊎ ((13 ≤ numberOf r) × (numberOf r ≤ 14))
 
 -- "A refusal is the last line, `refused`, line, number, after what was already written"
 abbrev pub dumpOn : Form Cycle → List ℕ
