@@ -15,5 +15,5 @@ pub table : map heard asked ≡ map wanted asked
 unfolding heard wanted asked burstOf high inputsTooLarge inputsNotBuilt inputsAbsent inputsCheck next walk winner resetOf phaseOk wellFormed seen phaseAfter opensLater decides chosen accepted stepOf
 table = refl
 
-pub eleven-numbers : map (λ r. numberOf r) named ≡ numbers
-eleven-numbers = refl
+pub all-numbers : map (λ r. numberOf r) named ≡ numbers
+all-numbers = refl

@@ -8,8 +8,8 @@
 --   bad, full          == a state that is not well formed, and one at the end of a run
 --   heard a            == what the definitions answer: the number, the state that a reset begins with or a refused step hands back
 --   wanted a           == what the page says: the number, and of a refused step the state as it came
---   named, numbers     == the eleven refusals, and their numbers
---   table, eleven-numbers == they agree (proofs/Refused.antt)
+--   named, numbers     == the refusals, and their numbers
+--   table, all-numbers == they agree (proofs/Refused.antt)
 use Prim.Native.Nat.{ℕ}
 use mathlib.Core.Bool.{Bool, true, false}
 use mathlib.Core.List.{List, [], _∷_}
