@@ -19,7 +19,6 @@ use Rattle.rules.specs.Codes.{mostCycles}
 use Rattle.rules.specs.State.{mastersOk}
 use Rattle.rules.specs.Valid.{cycleCheck}
 use Rattle.rules.proofs.Choice.{cond-elim}
-use Rattle.formats.specs.declared.HeaderRead.the-variants as head
 use Rattle.formats.specs.declared.TraceRead.the-variants.{Line}
 use Rattle.formats.specs.declared.Written.{Written}
 use Rattle.formats.specs.declared.Written.the-variants.{Bytes, Refused}
