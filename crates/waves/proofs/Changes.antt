@@ -36,7 +36,7 @@ abbrev isOne : Variable → Bool
 isOne x = eqb (x .width) 1
 
 unfoldable pub front : Variable → ℕ → List ℕ
-front x v = cond (eqb (x .width) 1) (bits (x .width) v) (98 ∷ (bits (x .width) v ++ (space ∷ [])))
+front x v = cond (isOne x) (bits (x .width) v) (98 ∷ (bits (x .width) v ++ (space ∷ [])))
 
 pub change-parts : (x : Variable) (v : ℕ) (r : List ℕ) → change x v ++ r ≡ front x v ++ (x .code ∷ (lf ∷ r))
 unfolding change front

@@ -4,7 +4,6 @@
 --   plain-text, text-append == a line is one, and so are two after each other, where the second begins with another byte
 --   up-to-text         == a text that is short enough is what the step comes to, where it ends
 --   up-to-rest         == a step and what stands after it are the input
---   up-to-few          == a step has no more bytes than are looked at
 --   up-to-ends         == a step of fewer bytes ends there
 --   up-to-parted       == after LF and before `#` nothing more is looked at
 --   up-to-long         == nor after as many bytes as are looked at
@@ -76,13 +75,6 @@ up-to-rest (suc k) (b ∷ s) =
     cond-elim (λ l. b ∷ (l ++ drop (length l) s) ≡ b ∷ s) (parts b (getD s 0 0))
     (λ e. refl)
     (λ e. ap (λ l. b ∷ l) (up-to-rest k s))
-
-pub up-to-few : (k : ℕ) (s : List ℕ) → length (upTo k s) ≤ k
-unfolding upTo
-up-to-few zero s = omega arith
-up-to-few (suc k) [] = omega arith
-up-to-few (suc k) (b ∷ s) =
-    cond-elim (λ l. length (b ∷ l) ≤ suc k) (parts b (getD s 0 0)) {x = []} (λ e. omega arith) (λ e. omega (arith, up-to-few k s))
 
 pub up-to-ends : (k : ℕ) (s : List ℕ) → length (upTo k s) < k → Ends (drop (length (upTo k s)) s)
 unfolding upTo
