@@ -1,0 +1,94 @@
+-- Bits as characters, and the lines that they stand in.
+--
+--   spread-bits        == eight bits spread over the bytes of a number
+--   spread-fits        == that number has 64 bits
+--   one-line, two-line, three-line, four-line, mask-line == the line of a variable of so many bits, byte by byte
+use Prim.Native.Nat.{ℕ, _+_, _*_, _/_, _%_, _^_, _≤_, _<_}
+use mathlib.Core.Path.{_≡_, refl}
+use mathlib.Core.List.{[], _∷_, _++_}
+use native.Mathlib.Omega.{arith}
+use native.Mathlib.Nat.{div-one}
+use lib.Bits.{bitAnd, and-le-r}
+use Rattle.words.specs.Words.{lowFirst}
+use Rattle.words.proofs.Tables.{same-below}
+use Rattle.waves.specs.Variables.{bits, change}
+use Rattle.dumps.specs.Changed.{variable}
+
+-- the arithmetic of `spread`
+pub copies-fit : (b : ℕ) → b < 256 → b * 18049651735527937 + b % 2 * 9223372036854775808 < 2 ^ 64
+copies-fit b h = let low : b % 2 ≤ 1 = omega arith in bounded b (b % 2) h low
+  where
+    bounded : (x y : ℕ) → x < 256 → y ≤ 1 → x * 18049651735527937 + y * 9223372036854775808 < 2 ^ 64
+    bounded x y h l = omega arith
+
+abbrev spreadOf : ℕ → ℕ
+spreadOf b = bitAnd ((b * 18049651735527937 + b % 2 * 9223372036854775808) / 128) 72340172838076673 + 3472328296227680304
+
+pub spread-bits : (b : ℕ) → b < 256 → lowFirst 8 (spreadOf b) ≡ bits 8 b
+spread-bits = same-below 256 (λ b. lowFirst 8 (spreadOf b)) (bits 8) refl
+
+pub spread-fits : (b : ℕ) → spreadOf b < 2 ^ 64
+spread-fits b = omega (arith, and-le-r ((b * 18049651735527937 + b % 2 * 9223372036854775808) / 128) 72340172838076673)
+
+module _ (k u : ℕ) where
+  pub one-line : change (variable 1 k) u ≡ (48 + u % 2) ∷ k ∷ 10 ∷ []
+  unfolding change
+  one-line = rw div-one
+
+  pub two-line : change (variable 2 k) u ≡ 98 ∷ (48 + u / 2 % 2) ∷ (48 + u % 2) ∷ 32 ∷ k ∷ 10 ∷ []
+  unfolding change
+  two-line = rw div-one
+
+  pub three-line : change (variable 3 k) u ≡ 98 ∷ (48 + u / 4 % 2) ∷ (48 + u / 2 % 2) ∷ (48 + u % 2) ∷ 32 ∷ k ∷ 10 ∷ []
+  unfolding change
+  three-line = rw div-one
+
+  pub four-line : change (variable 4 k) u ≡ 98 ∷ (48 + u / 8 % 2) ∷ (48 + u / 4 % 2) ∷ (48 + u / 2 % 2) ∷ (48 + u % 2) ∷ 32 ∷ k ∷ 10 ∷ []
+  unfolding change
+  four-line = rw div-one
+
+-- a bit of a mask is a bit of one of its bytes
+record Bits (u : ℕ) : Type 0 where
+  h7 : u / 256 % 256 / 128 % 2 ≡ u / 32768 % 2
+  h6 : u / 256 % 256 / 64 % 2 ≡ u / 16384 % 2
+  h5 : u / 256 % 256 / 32 % 2 ≡ u / 8192 % 2
+  h4 : u / 256 % 256 / 16 % 2 ≡ u / 4096 % 2
+  h3 : u / 256 % 256 / 8 % 2 ≡ u / 2048 % 2
+  h2 : u / 256 % 256 / 4 % 2 ≡ u / 1024 % 2
+  h1 : u / 256 % 256 / 2 % 2 ≡ u / 512 % 2
+  h0 : u / 256 % 256 / 1 % 2 ≡ u / 256 % 2
+  l7 : u % 256 / 128 % 2 ≡ u / 128 % 2
+  l6 : u % 256 / 64 % 2 ≡ u / 64 % 2
+  l5 : u % 256 / 32 % 2 ≡ u / 32 % 2
+  l4 : u % 256 / 16 % 2 ≡ u / 16 % 2
+  l3 : u % 256 / 8 % 2 ≡ u / 8 % 2
+  l2 : u % 256 / 4 % 2 ≡ u / 4 % 2
+  l1 : u % 256 / 2 % 2 ≡ u / 2 % 2
+  l0 : u % 256 / 1 % 2 ≡ u / 1 % 2
+
+bits-of : (u : ℕ) → Bits u
+bits-of u =
+    record {
+      h7 = omega arith;
+      h6 = omega arith;
+      h5 = omega arith;
+      h4 = omega arith;
+      h3 = omega arith;
+      h2 = omega arith;
+      h1 = omega arith;
+      h0 = omega arith;
+      l7 = omega arith;
+      l6 = omega arith;
+      l5 = omega arith;
+      l4 = omega arith;
+      l3 = omega arith;
+      l2 = omega arith;
+      l1 = omega arith;
+      l0 = omega arith;
+    }
+
+pub mask-line : (k u : ℕ) → change (variable 16 k) u ≡ 98 ∷ (bits 8 (u / 256 % 256) ++ (bits 8 (u % 256) ++ (32 ∷ k ∷ 10 ∷ [])))
+unfolding change
+mask-line k u =
+    let b = bits-of u in
+    rw (b .h7, b .h6, b .h5, b .h4, b .h3, b .h2, b .h1, b .h0, b .l7, b .l6, b .l5, b .l4, b .l3, b .l2, b .l1, b .l0)

@@ -1,0 +1,2 @@
+-- A step by its lines.
+pub mod Changed
