@@ -6,7 +6,7 @@
 --   nothing-there   == beyond the end no word stands
 use Prim.Native.Nat.{ℕ, zero, suc, _-_, _≤_, _<_}
 use mathlib.Core.Path.{_≡_, refl, sym, ap, _∙_}
-use mathlib.Core.Bool.{Bool, true, false, _&&_}
+use mathlib.Core.Bool.{Bool, true, false, _&&_, and-true, and-false, and-assoc}
 use mathlib.Core.List.{List, [], _∷_}
 use native.Mathlib.Omega.{arith}
 use lib.Dec.{eqb}
@@ -15,23 +15,11 @@ use lib.Seq.{take-all}
 use Rattle.formats.specs.Headers.{sameTo, startsWith}
 use Rattle.waves.specs.Header.{begins}
 
-all-of : (a b c : Bool) → (a && b && c) ≡ (a && (b && c))
-all-of true b c = refl
-all-of false b c = refl
-
-and-true : (a : Bool) → a ≡ (a && true)
-and-true true = refl
-and-true false = refl
-
-and-false : (a : Bool) → (a && false) ≡ false
-and-false true = refl
-and-false false = refl
-
 same-cons : (k a b : ℕ) (s t : List ℕ) → sameTo (suc k) (a ∷ s) (b ∷ t) ≡ (eqb a b && sameTo k s t)
-same-cons zero a b s t = and-true (eqb a b)
+same-cons zero a b s t = sym (and-true (eqb a b))
 same-cons (suc k) a b s t =
     ap (λ x. x && eqb (getD s k 0) (getD t k 0)) (same-cons k a b s t)
-    ∙ all-of (eqb a b) (sameTo k s t) (eqb (getD s k 0) (getD t k 0))
+    ∙ and-assoc (eqb a b) (sameTo k s t) (eqb (getD s k 0) (getD t k 0))
 
 pub too-short : (s t : List ℕ) → length s < length t → begins s t ≡ false
 unfolding begins

@@ -1,2 +1,11 @@
 pub mod Begins
 pub mod Headers
+pub mod Ends
+pub mod Unknown
+pub mod Times
+pub mod Sizes
+pub mod Bits
+pub mod Places
+pub mod Walking
+pub mod Answers
+pub mod Unique

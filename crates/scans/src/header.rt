@@ -7,7 +7,7 @@ ghost use Rattle.formats.specs.Headers.{ranged as rangedOf};
 ghost use Rattle.waves.specs.Header.{opening as openingText, closing as closingText, mastersIn, readDumpHeaderOf};
 
 // The number of a decimal digit.
-fn digit(b: u8) -> u32
+pub fn digit(b: u8) -> u32
     ensures { λ r. ⌜ (r ≡ b - 48) × (r ≤ 207) ⌝ }
 {
     if 48 <= b { (b - 48) as u32 } else { 0 }

@@ -1,3 +1,4 @@
+-- `read_after` meets its contract: both ends of its test.
 use Rattle.scans.proofs.Headers.{opening-short, opened, not-opened}
 -- `read_after` meets its contract.
 use borrow.Author.Needs.{needs}

@@ -1,0 +1,2 @@
+-- What the walk over the lines of a step finds.
+pub mod Walks
