@@ -1,4 +1,4 @@
-//! Headers, stimulus lines and trace lines: their shapes, their reading and their writing.
+//! Headers, stimulus lines and trace lines: their shapes, their reading and their writing. Dumps are in `dumps.rs`.
 //!
 //! A line is tested as a whole, one test after the other: its separators (3), its characters (4), the
 //! codes that are not built (5), masters that are not there (6), and the owner (7).
@@ -164,9 +164,15 @@ pub fn read_trace(input: &[u8], at: usize, n: usize) -> Result<Option<Cycle>, Re
         granted: line[27] == b'1',
         busreq: line[29] == b'1',
     };
-    built(&inputs)?;
+    valid(&cycle, n)?;
+    Ok(Some(cycle))
+}
+
+/// Tests 5, 6 and 7 of a cycle.
+pub fn valid(cycle: &Cycle, n: usize) -> Result<(), Refusal> {
+    built(&cycle.inputs())?;
     present(cycle.hbusreq | cycle.hlock | cycle.hgrant, n)?;
-    if usize::from(cycle.hmaster) >= n { Err(OWNER) } else { Ok(Some(cycle)) }
+    if usize::from(cycle.hmaster) >= n { Err(OWNER) } else { Ok(()) }
 }
 
 /// Reads the header with the given word: the number of masters, and where the first line starts.

@@ -1,5 +1,6 @@
 //! The reference as a program: `reference arbiter` turns a stimulus on standard input into a trace on
-//! standard output, `reference judge` turns a trace into a report.
+//! standard output, `reference judge` turns a trace into a report, `reference trace2vcd` a trace into a dump, and
+//! `reference vcd2trace` a dump into a trace.
 
 use std::io::{self, Read, Write};
 use std::process::ExitCode;
@@ -13,8 +14,10 @@ fn main() -> ExitCode {
     let program: fn(&[u8]) -> Vec<u8> = match words.iter().map(String::as_str).collect::<Vec<_>>()[..] {
         ["arbiter"] => reference::arbiter::program,
         ["judge"] => reference::judge::program,
+        ["trace2vcd"] => reference::dumps::program,
+        ["vcd2trace"] => reference::steps::program,
         _ => {
-            eprintln!("usage: reference arbiter | reference judge");
+            eprintln!("usage: reference arbiter | judge | trace2vcd | vcd2trace");
             return ExitCode::from(2);
         }
     };

@@ -4,7 +4,9 @@
 pub mod access;
 pub mod arbiter;
 pub mod assumptions;
+pub mod dumps;
 pub mod guarantees;
 pub mod judge;
 pub mod lines;
 pub mod spans;
+pub mod steps;
