@@ -7,12 +7,12 @@
 extern long read(int file, void *into, unsigned long most);
 extern long write(int file, const void *from, unsigned long most);
 
-enum { IN_BLOCK = 1 << 16, OUT_BLOCK = 1 << 17 };
+enum { IN_BLOCK = 1 << 16, OUT_BLOCK = 1 << 17, SPARE = 128 };
 
-/* bytes[at .. end) are read and not yet used */
+/* bytes[at .. end) are read and not yet used; who looks ahead may look at the spare bytes */
 struct input {
     u64 at, end;
-    u8 bytes[IN_BLOCK];
+    u8 bytes[IN_BLOCK + SPARE];
 };
 
 /* bytes[0 .. end) are not yet written */

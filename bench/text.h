@@ -5,9 +5,7 @@
 #include "blocks.h"
 
 static inline void put_text(struct output *out, const char *text) {
-    u8 *at = room(out, 16);
-    while (*text) *at++ = (u8)*text++;
-    fit(out, at);
+    for (; *text; text++, out->end++) *room(out, 1) = (u8)*text;
 }
 
 /* the ten pairs of digits that begin with d */
