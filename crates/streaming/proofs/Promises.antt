@@ -12,11 +12,11 @@ use Rattle.streams.specs.Streams.{written}
 use Rattle.streams.specs.Arbiter.{arbiterTurn, arbiterProgram}
 use Rattle.streams.specs.Judging.{judgeProgram}
 use Rattle.streams.specs.Blocks.{flowAnswer, asJudge}
+use Rattle.streams.proofs.Heads.{head-near, head-size}
 use Rattle.streams.proofs.Promises.{arbiter-in-blocks, judge-in-blocks}
 use Rattle.streaming.specs.Promises.{arbiterRun, judgeRun, ArbiterAsRun, JudgeAsRun, HeadsByNumber, ArbiterEnds, JudgeEnds}
 use Rattle.streaming.specs.Heads.{headAnswer, arbiterHeaded, arbiterHeadOf, arbiterHeadLeft, judgeHeaded, judgeHeadOf, judgeHeadLeft}
 use Rattle.streaming.proofs.Headed.{end-is, formed-good}
-use Rattle.streaming.proofs.Near.{head-near, head-size}
 
 pub arbiter-as-run : ArbiterAsRun
 arbiter-as-run s blocks last rest whole = rw (head-near Stim s) (go (readHeaderOf Stim s) refl)

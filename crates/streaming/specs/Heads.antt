@@ -1,28 +1,25 @@
 -- The header and the end of the input, as the calls of the two programs take them.
 --
 --   headRoom           == the room that a header and the line of its refusal need
---   headSize w s       == the bytes that a program reads before it tells what header it has
 --   arbiterHeaded h    == what a stimulus header comes to: the trace header and the reset state, or the line of its refusal
 --   headAnswer h       == the number that the arbiter's call answers which takes a header: 0, or that of its refusal
 --   judgeHeaded h      == what a trace header comes to: the judge at its start, or the line of its refusal
 --   arbiterHeadOf, arbiterHeadLeft, judgeHeadOf, judgeHeadLeft == the answers of the calls that take a header, and the buffer afterwards
 --   judgeEndOf, judgeEndLeft == the answer of the call that writes the end line, and the buffer afterwards
-use Prim.Native.Nat.{ℕ, _+_}
+use Prim.Native.Nat.{ℕ}
 use mathlib.Core.Bool.{true, cond}
 use mathlib.Core.List.{List, []}
-use lib.Dec.{eqb, ltb}
-use lib.ListN.{length, getD}
+use lib.Dec.{ltb}
+use lib.ListN.{length}
 use Rattle.rules.specs.declared.Refusal.the-variants.{State as StateRefusal, Short as ShortRefusal}
 use Rattle.rules.specs.Refusals.{numberOf}
 use Rattle.rules.specs.State.{resetState}
-use Rattle.formats.specs.declared.Word.{Word}
 use Rattle.formats.specs.declared.Word.the-variants.{Stim, Trace}
 use Rattle.formats.specs.declared.HeaderRead.{HeaderRead}
 use Rattle.formats.specs.declared.HeaderRead.the-variants as head
 use Rattle.formats.specs.declared.Written.{Written}
 use Rattle.formats.specs.declared.Written.the-variants as wrote
-use Rattle.formats.specs.Digits.{lf}
-use Rattle.formats.specs.Headers.{prefix, header, readHeaderOf}
+use Rattle.formats.specs.Headers.{header, readHeaderOf}
 use Rattle.formats.specs.Lines.{left}
 use Rattle.formats.specs.Report.{refusedLine, writeOf}
 use Rattle.streams.specs.declared.Tally.{Tally}
@@ -37,11 +34,6 @@ use Rattle.streams.specs.Turns.{over}
 
 abbrev pub headRoom : ℕ
 headRoom = 31
-
--- a header with n in one digit, and one byte more where no LF stands after that digit
-unfoldable pub headSize : Word → List ℕ → ℕ
-headSize w s =
-    cond (eqb (getD s (length (prefix w) + 1) 0) lf) (length (prefix w) + 2) (length (prefix w) + 3)
 
 -- the trace header as soon as the stimulus header is accepted
 abbrev pub arbiterHeaded : HeaderRead → ArbiterHead

@@ -20,8 +20,9 @@ use Rattle.streams.specs.declared.Tally.{Tally}
 use Rattle.streams.specs.Streams.{written}
 use Rattle.streams.specs.Arbiter.{arbiterTurn, arbiterProgram}
 use Rattle.streams.specs.Judging.{judgeTurn, startTally, judgeProgram}
+use Rattle.streams.specs.Heads.{headSize}
 use Rattle.streams.specs.Blocks.{joined, inBlocks, AllWhole, tallyFormed, flowAnswer}
-use Rattle.streaming.specs.Heads.{headRoom, headSize, headAnswer, arbiterHeadOf, arbiterHeadLeft, judgeHeadOf, judgeHeadLeft}
+use Rattle.streaming.specs.Heads.{headRoom, headAnswer, arbiterHeadOf, arbiterHeadLeft, judgeHeadOf, judgeHeadLeft}
 
 abbrev pub arbiterRun : HeaderRead → List (List ℕ) → List ℕ → List ℕ
 arbiterRun (head.Header n next) blocks last = header Trace n ++ inBlocks arbiterTurn (resetState n) blocks last

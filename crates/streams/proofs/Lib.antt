@@ -1,6 +1,7 @@
 pub mod Lines
 pub mod Cut
 pub mod Near
+pub mod Heads
 pub mod Parts
 pub mod Stretches
 pub mod Sizes

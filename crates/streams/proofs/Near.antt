@@ -115,7 +115,7 @@ module _ (a b : List ℕ) where
       ap (λ (c : Cycle). traceChecked (lineCheck n c) (a ++ b) 0) (cycle-near h)
       ∙ trace-checked h (lineCheck n (cycleAt a 0))
 
-  trace-near : (n : ℕ) → 31 ≤ length a → readTraceOf n (a ++ b) 0 ≡ readTraceOf n a 0
+  pub trace-near : (n : ℕ) → 31 ≤ length a → readTraceOf n (a ++ b) 0 ≡ readTraceOf n a 0
   unfolding readTraceOf
   trace-near n h =
       rw (place-near traceFields (omega arith) h, trace-in n h (place traceFields a 0))
@@ -144,7 +144,7 @@ stimulus-line n s x k e = go (mastersOk n) (place stimulusFields s 0) (inputsChe
     go true whole Good p u v = let f = simp (p, u, v) at e in (cc, place-whole stimulusFields s u)
     go true whole (Bad r) p u v = let f = simp (p, u, v) at e in let z : _≡_ {A = ℕ} 0 1 = cc in absurd (omega arith)
 
-trace-line : (n : ℕ) (s : List ℕ) (c : Cycle) (k : ℕ) → readTraceOf n s 0 ≡ trace.Line c k → (k ≡ 31) × (31 ≤ length s)
+pub trace-line : (n : ℕ) (s : List ℕ) (c : Cycle) (k : ℕ) → readTraceOf n s 0 ≡ trace.Line c k → (k ≡ 31) × (31 ≤ length s)
 unfolding readTraceOf
 trace-line n s x k e = go (mastersOk n) (place traceFields s 0) (lineCheck n (cycleAt s 0)) refl refl refl
   where

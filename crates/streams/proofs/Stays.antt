@@ -38,7 +38,7 @@ module _ {S : Type 0} {turn : S → List ℕ → Turn S} {width most : ℕ} {For
   kept-before bytes (on more s) f = f
   kept-before bytes (done more s) f = f
 
-  stays-formed : (k : ℕ) (s : S) (block : List ℕ) → Formed s → Formed (kept (stretch turn k s block))
+  pub stays-formed : (k : ℕ) (s : S) (block : List ℕ) → Formed s → Formed (kept (stretch turn k s block))
   unfolding stretch
   stays-formed zero s block f = f
   stays-formed (suc k) s [] f = f

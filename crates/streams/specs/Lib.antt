@@ -2,6 +2,7 @@
 pub mod Streams
 pub mod Arbiter
 pub mod Judging
+pub mod Heads
 pub mod Blocks
 pub mod Turns
 pub mod Going

@@ -19,7 +19,7 @@ use Rattle.formats.specs.declared.HeaderRead.{HeaderRead}
 use Rattle.formats.specs.declared.HeaderRead.the-variants.{Header, Refused}
 use Rattle.formats.specs.Digits.{lf}
 use Rattle.formats.specs.Headers.{prefix, sameTo, startsWith, isDecimal, ranged, numberIn, readHeaderOf}
-use Rattle.streaming.specs.Heads.{headSize}
+use Rattle.streams.specs.Heads.{headSize}
 
 -- the number of a header, by its three bytes
 abbrev digits : ℕ → ℕ → ℕ → ℕ → HeaderRead
