@@ -1,0 +1,4 @@
+pub mod DumpNear
+pub mod DumpLines
+pub mod DumpCounted
+pub mod DumpPromises

@@ -4,3 +4,4 @@ pub mod Dumping
 pub mod Undumping
 pub mod Blocks
 pub mod Heads
+pub mod DumpPromises
