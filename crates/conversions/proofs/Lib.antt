@@ -3,3 +3,7 @@ pub mod DumpLines
 pub mod DumpCounted
 pub mod DumpWhole
 pub mod DumpPromises
+-- The laws of the converting programs.
+pub mod UndumpFacts
+pub mod UndumpSteps
+pub mod UndumpHeads

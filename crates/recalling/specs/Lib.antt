@@ -1,0 +1,2 @@
+-- Where a block of a dump is cut.
+pub mod Cuts
