@@ -83,21 +83,22 @@ undump-last p = go (mastersOk (p .n))
     go true = (_, refl)
     go false = (_, refl)
 
-module _ (F : StepFacts) where
-  -- a turn that goes on has read a step
-  goes-by : {P : Type 0} (p : Position) (s bytes : List ℕ) (t : Position) (k : ℕ) → undumpTurn p s ≡ goes bytes t k
-      → ((c : Cycle) → readStepOf (p .n) (p .count) (p .before) s 0 ≡ Line c k → t ≡ after p c (linesIn (take k s)) → P) → P
-  unfolding undumpTurn
-  goes-by {P} p s bytes t k e next = go (readStepOf (p .n) (p .count) (p .before) s 0) refl
-    where
-      go : (r : TraceRead) → readStepOf (p .n) (p .count) (p .before) s 0 ≡ r → P
-      go (Line c m) q = let f = rw q at e in let same : m ≡ k = cc in next c (rw same at q) (cc)
-      go NoMore q = let f = rw q at e in no (cc)
-      go (Refused r) q = let f = rw q at e in no (cc)
+-- a turn that goes on has read a step
+pub goes-by : {P : Type 0} (p : Position) (s bytes : List ℕ) (t : Position) (k : ℕ) → undumpTurn p s ≡ goes bytes t k
+    → ((c : Cycle) → readStepOf (p .n) (p .count) (p .before) s 0 ≡ Line c k → t ≡ after p c (linesIn (take k s)) → P) → P
+unfolding undumpTurn
+goes-by {P} p s bytes t k e next = go (readStepOf (p .n) (p .count) (p .before) s 0) refl
+  where
+    go : (r : TraceRead) → readStepOf (p .n) (p .count) (p .before) s 0 ≡ r → P
+    go (Line c m) q = let f = rw q at e in let same : m ≡ k = cc in next c (rw same at q) (cc)
+    go NoMore q = let f = rw q at e in no (cc)
+    go (Refused r) q = let f = rw q at e in no (cc)
 
-  pub undump-next : (p : Position) (rest bytes : List ℕ) (t : Position) (k : ℕ) → undumpTurn p rest ≡ goes bytes t k → (3 ≤ k) × (k ≤ length rest)
+module _ (F : StepFacts) where
+  pub undump-next : (p : Position) (rest bytes : List ℕ) (t : Position) (k : ℕ) → undumpTurn p rest ≡ goes bytes t k
+      → (3 ≤ k) × (k ≤ 104) × (k ≤ length rest)
   undump-next p rest bytes t k e =
-      goes-by p rest bytes t k e (λ c q i. let f = F .found (p .n) (p .count) (p .before) rest c k q in (f .least, f .inside))
+      goes-by p rest bytes t k e (λ c q i. let f = F .found (p .n) (p .count) (p .before) rest c k q in (f .least, f .most, f .inside))
 
   -- the lines of a step are the same with more behind it
   read-near : (p : Position) (a b : List ℕ) → readStepOf (p .n) (p .count) (p .before) (a ++ b) 0 ≡ readStepOf (p .n) (p .count) (p .before) a 0
@@ -131,7 +132,7 @@ module _ (F : StepFacts) where
   undump-rest p a b bytes t k (whole (nothing e)) g = whole (nothing (rw e (drop-nil k)))
   undump-rest p a b bytes t k (whole (between x e f)) g =
       let n = undump-next p a bytes t k g in
-      rw e (whole (left-ends k x b (rw e at (n .1)) f))
+      rw e (whole (left-ends k x b (rw e at (n .2)) f))
   undump-rest p a b bytes t k (long x y e (nothing i) g) h =
       let is : a ≡ y = rw i at e in
       absurd (goes-by p a bytes t k h (λ c q j.

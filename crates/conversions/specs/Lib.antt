@@ -5,3 +5,4 @@ pub mod Undumping
 pub mod Blocks
 pub mod Heads
 pub mod DumpPromises
+pub mod UndumpPromises
