@@ -13,7 +13,7 @@ use native.Mathlib.Omega.{arith}
 use borrow.Author.Tests.{eqb-true, ne-eqb}
 use lib.Dec.{eqb}
 use lib.ListN.{length, getD, take, drop}
-use lib.Seq.{getD-take, getD-drop, drop-nil}
+use lib.Seq.{getD-take, getD-drop}
 use Rattle.rules.specs.declared.Refusal.the-variants as refusal
 use Rattle.rules.specs.State.{mastersOk}
 use Rattle.rules.proofs.Choice.{either, and-left, and-right}
@@ -22,8 +22,8 @@ use Rattle.formats.specs.declared.HeaderRead.the-variants.{Header, Refused}
 use Rattle.formats.specs.Digits.{lf, decimalBefore}
 use Rattle.formats.specs.Texts.{bytes}
 use Rattle.formats.specs.Headers.{isDecimal, ranged}
-use Rattle.waves.specs.Header.{opening, declared, allDeclared, closing, begins, oneDigit, twoDigits, mastersIn, readDumpHeaderOf}
-use Rattle.conversions.specs.Heads.{shortHeader, dumpHeadSize}
+use Rattle.waves.specs.Header.{opening, declared, allDeclared, closing, begins, mastersIn, readDumpHeaderOf}
+use Rattle.conversions.specs.Heads.{dumpHeadSize}
 
 begins-near : (p k : ℕ) (s t : List ℕ) → p + length t ≤ k → begins (drop p (take k s)) t ≡ begins (drop p s) t
 unfolding begins

@@ -5,21 +5,20 @@
 --   undump-program  == no step writes more bytes than a trace line, and the position stays well formed
 --   step-on, step-refused, step-none == the three ends of a step
 --   block-stopped, block-used == the two ends of a block
-use Prim.Native.Nat.{ℕ, _+_, _≤_, _<_}
-use mathlib.Core.Path.{_≡_, refl, sym, ap, _∙_}
+use Prim.Native.Nat.{ℕ, _≤_}
+use mathlib.Core.Path.{_≡_, refl, ap, _∙_}
 use mathlib.Core.Bool.{true, false}
 use mathlib.Core.List.{List, []}
 use native.Mathlib.Omega.{arith}
 use lib.ListN.{length, take}
 use Rattle.rules.specs.declared.Refusal.{Refusal}
 use Rattle.rules.specs.declared.Cycle.{Cycle}
-use Rattle.rules.specs.Codes.{mostCycles}
 use Rattle.formats.specs.declared.TraceRead.{TraceRead}
 use Rattle.formats.specs.declared.TraceRead.the-variants.{Line, NoMore, Refused}
 use Rattle.formats.specs.Lines.{traceLine}
 use Rattle.formats.specs.Report.{refusedLine}
 use Rattle.streams.specs.declared.Flow.the-variants.{GoesOn, Stopped}
-use Rattle.streams.specs.Streams.{Turn, goes, stops, on, done}
+use Rattle.streams.specs.Streams.{goes, on, done}
 use Rattle.streams.specs.Blocks.{Stepping, Cutting, bytesOf}
 use Rattle.streams.specs.Turns.{over, bytesIn, stateAfter, takenBy, Put, Lined}
 use Rattle.streams.proofs.Sizes.{went, ended}
@@ -31,44 +30,43 @@ use Rattle.conversions.specs.declared.Position.{Position}
 use Rattle.conversions.specs.Positions.{after}
 use Rattle.conversions.specs.Undumping.{recalled, undumpTurn}
 use Rattle.conversions.specs.Blocks.{BetweenSteps, asConverted, undumpStretch}
-use Rattle.conversions.proofs.UndumpFacts.{StepFacts}
+use Rattle.conversions.proofs.UndumpFacts.{found}
 use Rattle.conversions.proofs.UndumpPositions.{Formed, Facts, facts-of, test-of, refused-short}
 use Rattle.conversions.proofs.UndumpSteps.{goes-by, undump-last, undump-next, undump-near, undump-rest}
 
-module _ (F : StepFacts) where
-  pub undump-stepping : Stepping 3 104 undumpTurn
-  undump-stepping = record { some = omega arith; last = undump-last; next = undump-next F }
+pub undump-stepping : Stepping 3 104 undumpTurn
+undump-stepping = record { some = omega arith; last = undump-last; next = undump-next }
 
-  pub undump-cutting : Cutting undumpTurn BetweenSteps
-  undump-cutting = record { near = undump-near F; rest = undump-rest F }
+pub undump-cutting : Cutting undumpTurn BetweenSteps
+undump-cutting = record { near = undump-near; rest = undump-rest }
 
-  pub undump-counts : Counting (λ (p : Position). p .count) undumpTurn
-  undump-counts p rest bytes t k e =
-      goes-by p rest bytes t k e
-      (λ c q i. let f = F .found (p .n) (p .count) (p .before) rest c k q in rw i (refl, omega (arith, f .time)))
+pub undump-counts : Counting (λ (p : Position). p .count) undumpTurn
+undump-counts p rest bytes t k e =
+    goes-by p rest bytes t k e
+    (λ c q i. let f = found (p .n) (p .count) (p .before) rest c k q in rw i (refl, omega (arith, f .time)))
 
-  few-recalled : (p : Position) (rest : List ℕ) → Facts p → (r : TraceRead) → length (bytesIn (recalled r p rest)) ≤ 31
-  few-recalled p rest f (Line c next) = omega arith
-  few-recalled p rest f NoMore = omega arith
-  few-recalled p rest f (Refused r) = refused-short (p .line) r (omega (arith, f .lines, f .room))
+few-recalled : (p : Position) (rest : List ℕ) → Facts p → (r : TraceRead) → length (bytesIn (recalled r p rest)) ≤ 31
+few-recalled p rest f (Line c next) = omega arith
+few-recalled p rest f NoMore = omega arith
+few-recalled p rest f (Refused r) = refused-short (p .line) r (omega (arith, f .lines, f .room))
 
-  stays-recalled : (p : Position) (rest : List ℕ) → Facts p → (r : TraceRead) → readStepOf (p .n) (p .count) (p .before) rest 0 ≡ r
-      → Formed (stateAfter p (recalled r p rest))
-  stays-recalled p rest f (Line c next) e =
-      let g = F .found (p .n) (p .count) (p .before) rest c next e in
-      test-of (after p c (linesIn (take next rest))) (record { masters = f .masters; room = omega (arith, g .time); lines = omega (arith, f .lines, g .lines) })
-  stays-recalled p rest f NoMore e = test-of p f
-  stays-recalled p rest f (Refused r) e = test-of p f
+stays-recalled : (p : Position) (rest : List ℕ) → Facts p → (r : TraceRead) → readStepOf (p .n) (p .count) (p .before) rest 0 ≡ r
+    → Formed (stateAfter p (recalled r p rest))
+stays-recalled p rest f (Line c next) e =
+    let g = found (p .n) (p .count) (p .before) rest c next e in
+    test-of (after p c (linesIn (take next rest))) (record { masters = f .masters; room = omega (arith, g .time); lines = omega (arith, f .lines, g .lines) })
+stays-recalled p rest f NoMore e = test-of p f
+stays-recalled p rest f (Refused r) e = test-of p f
 
-  pub undump-program : Program undumpTurn 3 31 Formed
-  unfolding undumpTurn
-  undump-program =
-      record {
-        longest = 104;
-        lines = undump-stepping;
-        few = λ p rest f. few-recalled p rest (facts-of p f) (readStepOf (p .n) (p .count) (p .before) rest 0);
-        stays = λ p rest f. stays-recalled p rest (facts-of p f) (readStepOf (p .n) (p .count) (p .before) rest 0) refl;
-      }
+pub undump-program : Program undumpTurn 3 31 Formed
+unfolding undumpTurn
+undump-program =
+    record {
+      longest = 104;
+      lines = undump-stepping;
+      few = λ p rest f. few-recalled p rest (facts-of p f) (readStepOf (p .n) (p .count) (p .before) rest 0);
+      stays = λ p rest f. stays-recalled p rest (facts-of p f) (readStepOf (p .n) (p .count) (p .before) rest 0) refl;
+    }
 
 module _ (p : Position) (rest : List ℕ) where
   turn-is : (r : TraceRead) → readStepOf (p .n) (p .count) (p .before) rest 0 ≡ r → undumpTurn p rest ≡ recalled r p rest

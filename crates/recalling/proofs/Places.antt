@@ -6,7 +6,7 @@
 --   cut-all         == a block with a long step at its end is taken
 use Prim.Native.Nat.{ℕ, zero, suc, _+_, _-_, _≤_, _<_}
 use mathlib.Core.Path.{_≡_, refl, sym, _∙_, ap}
-use mathlib.Core.Bool.{Bool, true, false, _&&_, true≢false}
+use mathlib.Core.Bool.{true, false, _&&_}
 use mathlib.Core.List.{List, [], _∷_, _++_, append-nil}
 use native.Mathlib.Omega.{arith}
 use native.Mathlib.Nat.{add-zero}
@@ -18,9 +18,9 @@ use lib.Seq.{take-suc, take-length, drop-length, getD-drop}
 use Rattle.rules.proofs.Choice.{either, order, differ, and-left, and-right, and-both}
 use Rattle.formats.specs.Digits.{lf}
 use Rattle.waves.specs.Steps.{hash}
-use Rattle.waves.specs.Reading.{upTo, stepText, mostBytes}
+use Rattle.waves.specs.Reading.{upTo}
 use Rattle.conversions.specs.Blocks.{StepEnds, nothing, between, BetweenSteps, whole, long}
-use Rattle.recalling.specs.Cuts.{endsAt, Parted, CutAt}
+use Rattle.recalling.specs.Cuts.{endsAt, CutAt}
 
 -- an end of a step at i
 module _ (s : List ℕ) (i : ℕ) (inside : i + 1 < length s) (e : endsAt s i ≡ true) where
