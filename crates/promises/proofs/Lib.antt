@@ -25,6 +25,7 @@ pub mod Drawn
 pub mod Recalled
 pub mod DumpForms
 pub mod DumpNumbers
+pub mod DumpsRefused
 pub mod Waves
 pub mod Wrong
 pub mod Examples

@@ -21,7 +21,7 @@ use Rattle.rules.specs.Refusals.{numberOf}
 use Rattle.rules.specs.Codes.{mostCycles}
 use Rattle.formats.specs.declared.HeaderRead.the-variants as head
 use Rattle.formats.specs.declared.TraceRead.the-variants as step
-use Rattle.formats.specs.Files.{complete, traceFile}
+use Rattle.formats.specs.Files.{complete, refusedAt, traceFile}
 use Rattle.formats.specs.Report.{refusedLine}
 use Rattle.formats.specs.Promises.{InRange, Each, ValidCycle}
 use Rattle.waves.specs.Header.{readDumpHeaderOf}
@@ -91,6 +91,11 @@ DumpReadsBack = (s : List ℕ) (n : ℕ) (cs : List Cycle) → Has traces s (who
 pub record WholeDumpsAreRead : Type 0 where
   pub read : (s : List ℕ) (n : ℕ) (cs : List Cycle) → HasDump s (whole n cs) → readDump s ≡ complete n cs
   pub written : (s : List ℕ) (n : ℕ) (cs : List Cycle) → readDump s ≡ complete n cs → HasDump s (whole n cs) × (dump n cs ≡ s)
+
+-- reading a dump tells the line of a refusal as the program does
+pub record RefusedDumpsAreTold : Type 0 where
+  pub header : (s : List ℕ) (r : Refusal) → HasDump s (noHeader r) → readDump s ≡ refusedAt 1 r
+  pub step : (s : List ℕ) (n : ℕ) (cs : List Cycle) (r : Refusal) → HasDump s (cutAfter n cs r) → readDump s ≡ refusedAt (suc (linesIn (dump n cs))) r
 
 -- "the two programs composed are the identity on traces, and on dumps"
 pub record EachUndoesTheOther : Type 0 where
