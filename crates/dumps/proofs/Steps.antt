@@ -1,7 +1,5 @@
 -- A step: its time, and the lines of its two parts.
 --
---   few-digits         == a number below 10 ^ k has k digits at most
---   time-put           == the line of the time
 --   inputs-put, outputs-put == the lines of the variables, one after the other
 --   step-put           == the whole step
 use Prim.Native.Nat.{ℕ, zero, suc, _+_, _/_, _%_, _^_, _≤_, _<_}
@@ -26,28 +24,6 @@ use Rattle.waves.specs.Steps.{timeLine, changes, dumpStep}
 use Rattle.fields.proofs.Stores.{set-first}
 use Rattle.dumps.specs.Changed.{variable, changed, inputVariables, outputVariables, Put}
 use Rattle.dumps.proofs.Puts.{put-then, put-last, put-start}
-
-few-digits : (j k v : ℕ) (l : List ℕ) → v < 10 ^ suc j → length (decimalBefore k v l) ≤ suc j + length l
-unfolding decimalBefore
-few-digits j zero v l h = omega arith
-few-digits zero (suc k) v l h = rw (lt-ltb v 10 h) (omega arith)
-few-digits (suc j) (suc k) v l h =
-    order 10 v
-    (λ more. rw (le-ltb v 10 more) (omega (arith, few-digits j k (v / 10) ((48 + v % 10) ∷ l) (div-lt-iff-lt-mul (lit< tt) .1 (rw pow-suc at h)))))
-    (λ last. rw (lt-ltb v 10 last) (omega arith))
-
-pub six-digits : (t : ℕ) → t < mostCycles → length (decimal t) ≤ 6
-six-digits t h = few-digits 5 10 t [] h
-
-pub time-put : (t : ℕ) (b c : List ℕ) (r : ℕ) → t < mostCycles → r ≡ 1 + length (decimal t) + 1 → c ≡ sets b 1 (decimal t ++ (10 ∷ []))
-    → Put b 0 (timeLine t) 8 r (set c 0 35)
-unfolding timeLine
-time-put t b c r h n e =
-    record {
-      after = simp length-append (omega arith);
-      within = omega (arith, six-digits t h);
-      bytes = set-first b c 0 35 (decimal t ++ (10 ∷ [])) e;
-    }
 
 module _ (all : Bool) (b0 b1 b2 b3 b4 b5 : List ℕ) (at p1 p2 p3 p4 p5 : ℕ) where
   pub inputs-put : (p x : Inputs)

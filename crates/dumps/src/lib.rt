@@ -1,5 +1,6 @@
 // A dump written: its header, and a step, into a lent buffer. Nothing is written before the last test.
 mod lines;
+mod times;
 
 use formats::Written;
 use rules::Check;
@@ -57,7 +58,7 @@ pub fn put_step(prev: Cycle, t: u32, c: Cycle, buf: &mut [u8]) -> usize
     let q = prev.outputs;
     let x = c.inputs;
     let o = c.outputs;
-    let first = lines::put_time(t, buf);
+    let first = times::put_time(t, buf);
     let second = lines::put_inputs(all, p, x, buf, first);
     lines::put_outputs(all, q, o, buf, second)
 }

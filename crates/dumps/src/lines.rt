@@ -5,22 +5,11 @@ ghost use mathlib.Core.Path.{_≡_};
 ghost use Prim.Native.Nat.{_+_, _≤_, _<_};
 ghost use lib.ListN.{length};
 ghost use lib.Seq.{sets};
-ghost use Rattle.rules.specs.Codes.{mostCycles};
 ghost use Rattle.words.specs.Words.{lowFirst};
 ghost use Rattle.formats.specs.Columns.{inputValues, outputValues};
 ghost use Rattle.waves.specs.Variables.{bits};
-ghost use Rattle.waves.specs.Steps.{timeLine, changes};
+ghost use Rattle.waves.specs.Steps.{changes};
 ghost use Rattle.dumps.specs.Changed.{variable, changed, inputVariables, outputVariables, Put};
-
-// The line of a time; answers the position after it.
-pub fn put_time(t: u32, buf: &mut [u8]) -> usize
-    requires { ⌜ (8 ≤ length (now buf)) × (t < mostCycles) ⌝ }
-    ensures { λ r. ⌜ Put (now (buf .entry)) 0 (timeLine t) 8 r (now (buf .exit)) ⌝ }
-{
-    let end = fields::text::put_decimal(buf, 1, t, 10);
-    buf[0] = 35;
-    end
-}
 
 // The characters of eight bits as one number: seven copies of them, each nine places after the one before, have the high seven at the
 // bottoms of their bytes.
