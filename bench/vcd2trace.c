@@ -31,18 +31,18 @@ INLINE u32 eight_bits(struct step *s, const u8 *at) {
     return (u32)(text * 0x8040201008040201ul >> 56);
 }
 
-/* Each reads the change of a variable, if it stands here. */
+/* Each reads the change of a variable, if it stands here: the line of another begins or ends otherwise. */
 INLINE void take_mask(struct step *s, u32 code, u32 place, u32 absent) {
-    if (load4(s->at + 16) >> 8 != END(code)) return;
+    if (s->at[0] != 'b' || load4(s->at + 16) >> 8 != END(code)) return;
     u32 value = eight_bits(s, s->at + 1) << 8 | eight_bits(s, s->at + 9), text = hex4(value);
-    s->bad |= (s->at[0] ^ 'b') | (value & absent) | (text == load4(s->line + place));
+    s->bad |= (value & absent) | (text == load4(s->line + place));
     store4(s->line + place, text);
     s->at += 20;
     s->changes++;
 }
 
 INLINE void take_code(struct step *s, u32 width, u32 code, u32 place, u32 absent) {
-    if (load4(s->at + width) >> 8 != END(code)) return;
+    if (s->at[0] != 'b' || load4(s->at + width) >> 8 != END(code)) return;
     u32 value = 0;
     for (u32 i = 1; i <= width; i++) {
         u32 bit = s->at[i] ^ '0';
@@ -50,15 +50,16 @@ INLINE void take_code(struct step *s, u32 width, u32 code, u32 place, u32 absent
         value = value << 1 | (bit & 1);
     }
     u8 text = pairs[2 * value + 1];
-    s->bad |= (s->at[0] ^ 'b') | (absent >> value & 1) | (text == s->line[place]);
+    s->bad |= (absent >> value & 1) | (text == s->line[place]);
     s->line[place] = text;
     s->at += width + 4;
     s->changes++;
 }
 
+/* Three bytes, of which the first is a bit. */
 INLINE void take_flag(struct step *s, u32 code, u32 place) {
-    if (load2(s->at + 1) != (code | '\n' << 8)) return;
-    s->bad |= (s->at[0] ^ '0') >> 1 | (s->at[0] == s->line[place]);
+    if ((load4(s->at) & 0xfffffe) != ('0' | code << 8 | '\n' << 16)) return;
+    s->bad |= s->at[0] == s->line[place];
     s->line[place] = s->at[0];
     s->at += 3;
     s->changes++;

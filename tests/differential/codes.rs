@@ -1,7 +1,7 @@
 //! Lines of the right shape with values that are refused: characters, codes, masters that are not
 //! there; one fault in a line or several, so that the order of the tests shows.
 
-use crate::case::{line_start, plain, sample, Case, Program, PROGRAMS};
+use crate::case::{line_start, plain, sample, Case, Program, LINED};
 use crate::rng::Rng;
 
 /// Where the fields stand in a line.
@@ -39,10 +39,10 @@ pub fn spoil(rng: &mut Rng, program: Program, n: usize, line: &mut [u8], fault: 
             }
             line[mask..mask + 4].copy_from_slice(format!("{value:04x}").as_bytes());
         }
-        7 if n < 16 && program == Program::Judge => {
+        7 if n < 16 && program != Program::Arbiter => {
             line[HMASTER] = b"0123456789abcdef"[rng.within(n, 15)];
         }
-        8 if program == Program::Judge => line[HMASTER] = rng.pick(b"ABCDEFGg/: \t\n\0"),
+        8 if program != Program::Arbiter => line[HMASTER] = rng.pick(b"ABCDEFGg/: \t\n\0"),
         9 => line[mask + rng.below(4)] = rng.pick(b"ABCDEFGgx/:`@ \0"),
         // a separator inside a field is a character that the field does not allow
         10 => {
@@ -65,7 +65,7 @@ pub fn spoil(rng: &mut Rng, program: Program, n: usize, line: &mut [u8], fault: 
 /// and now and then another fault in a later line, which must not be reached.
 fn spoiled(rng: &mut Rng, n: usize, first: usize, count: usize) -> Vec<Case> {
     let mut all = Vec::new();
-    for program in PROGRAMS {
+    for program in LINED {
         let cycles = rng.within(1, 6);
         let mut input = sample(rng, program, n, cycles);
         let at = rng.within(1, cycles);

@@ -1,6 +1,6 @@
 //! Damaged inputs: bytes changed, put in or left out, files cut short or with something after them.
 
-use crate::case::{line_start, plain, sample, Case, Program, PROGRAMS};
+use crate::case::{line_start, plain, sample, Case, Program, LINED};
 use crate::rng::Rng;
 
 /// Bytes that damage likes to leave.
@@ -8,10 +8,10 @@ pub const ODD: &[u8] = b"\t\n\r \0\x0b\x7f\x80\xff019afgAFGxX,;-+";
 
 /// A short input for each program, damaged in one place.
 pub fn bytes(rng: &mut Rng, n: usize) -> Vec<Case> {
-    PROGRAMS.map(|program| damaged(rng, program, n)).into_iter().collect()
+    LINED.map(|program| damaged(rng, program, n)).into_iter().collect()
 }
 
-fn damaged(rng: &mut Rng, program: Program, n: usize) -> Case {
+pub fn damaged(rng: &mut Rng, program: Program, n: usize) -> Case {
     let cycles = rng.within(1, 8);
     let mut input = sample(rng, program, n, cycles);
     let line = rng.within(1, cycles);
@@ -56,7 +56,7 @@ pub const CUTS: usize = 31 + 12;
 /// An input for each program cut short: at place `turn` of a line, or of the header.
 pub fn cuts(rng: &mut Rng, n: usize, turn: usize) -> Vec<Case> {
     let mut all = Vec::new();
-    for program in PROGRAMS {
+    for program in LINED {
         let cycles = rng.within(1, 6);
         let input = sample(rng, program, n, cycles);
         let line = rng.within(1, cycles);
@@ -72,7 +72,7 @@ pub fn cuts(rng: &mut Rng, n: usize, turn: usize) -> Vec<Case> {
 /// An input for each program with something after its end, before its start or between its lines.
 pub fn extra(rng: &mut Rng, n: usize) -> Vec<Case> {
     let mut all = Vec::new();
-    for program in PROGRAMS {
+    for program in LINED {
         let cycles = rng.below(5);
         let mut input = sample(rng, program, n, cycles);
         let whole = sample(rng, program, n, 1);
@@ -83,9 +83,9 @@ pub fn extra(rng: &mut Rng, n: usize) -> Vec<Case> {
             2 => whole.clone(),
             3 => vec![b'\n'; rng.within(1, 32)],
             4 => vec![0; rng.within(1, 64)],
-            // a line of the other program
+            // a line of the other length
             5 => {
-                let other = PROGRAMS[usize::from(program == Program::Arbiter)];
+                let other = if program == Program::Arbiter { Program::Judge } else { Program::Arbiter };
                 sample(rng, other, n, 1).split_off(line_start(other, n, 1))
             }
             _ => (0..rng.within(1, 40)).map(|_| rng.byte()).collect(),
@@ -107,7 +107,7 @@ pub fn blocks(rng: &mut Rng, n: usize, turn: usize) -> Vec<Case> {
     let sizes = [512, 1024, 4096, 8192, 16384, 32768, 65536, 131_072, 2_200_000];
     let size = sizes[turn % sizes.len()];
     let mut all = Vec::new();
-    for program in PROGRAMS {
+    for program in LINED {
         let cycles = size / program.shape().len() + rng.within(2, 40);
         let mut input = sample(rng, program, n, cycles);
         if rng.chance(3, 4) {

@@ -3,7 +3,7 @@
 //! that may show in an answer.
 
 use crate::aimed::{aimed, arbiter_trace};
-use crate::case::{line_start, plain, sample, stimulus_text, trace_text, Case, Feed, Program, PROGRAMS};
+use crate::case::{line_start, plain, sample, stimulus_text, trace_text, Case, Feed, Program, LINED};
 use crate::chaos::chaotic;
 use crate::codes::{spoil, FAULTS};
 use crate::damage::ODD;
@@ -16,10 +16,7 @@ use crate::traffic::lawful;
 
 /// How many lines a program takes at a time.
 fn block(program: Program) -> usize {
-    match program {
-        Program::Arbiter => 2048,
-        Program::Judge => 1024,
-    }
+    if program == Program::Arbiter { 2048 } else { 1024 }
 }
 
 /// Runs that end next to an edge, and one that has several.
@@ -47,7 +44,7 @@ fn good(rng: &mut Rng, program: Program, n: usize, cycles: usize) -> Vec<u8> {
     match program {
         _ if rng.chance(1, 4) => sample(rng, program, n, cycles),
         Program::Arbiter => stimulus_text(n, &lawful(rng, n, cycles)),
-        Program::Judge => trace_text(n, &arbiter::run(n, &lawful(rng, n, cycles))),
+        _ => trace_text(n, &arbiter::run(n, &lawful(rng, n, cycles))),
     }
 }
 
@@ -60,7 +57,7 @@ pub fn spoiled(rng: &mut Rng, turn: usize) -> Vec<Case> {
     // with 16 masters none is absent
     let n = masters(rng).min(if matches!(fault, 5..=7) { 15 } else { 16 });
     let mut all = Vec::new();
-    for program in PROGRAMS {
+    for program in LINED {
         let (length, line) = spot(rng, program, place);
         let mut input = good(rng, program, n, length);
         let (start, width) = (line_start(program, n, line + 1), program.shape().len());
@@ -82,7 +79,7 @@ pub fn spoiled(rng: &mut Rng, turn: usize) -> Vec<Case> {
 pub fn cut(rng: &mut Rng, turn: usize) -> Vec<Case> {
     let n = masters(rng);
     let mut all = Vec::new();
-    for program in PROGRAMS {
+    for program in LINED {
         let (_, line) = spot(rng, program, turn % PLACES);
         let mut input = good(rng, program, n, line + 1);
         input.truncate(line_start(program, n, line + 1) + turn % program.shape().len());

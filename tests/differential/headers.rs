@@ -1,6 +1,6 @@
-//! Headers of every shape, right and wrong, for both programs.
+//! Headers of every shape, right and wrong, of stimuli and traces.
 
-use crate::case::{plain, sample, Case, PROGRAMS};
+use crate::case::{plain, sample, Case, LINED};
 use crate::rng::Rng;
 
 /// The numbers of masters as they may be written, well or badly.
@@ -10,7 +10,7 @@ const NUMBERS: [&str; 40] = [
     "２", "2\0", "\0",
 ];
 
-/// Headers with other faults; `@` stands for the program's own word and `%` for the other one.
+/// Headers with other faults; `@` stands for the program's own word and `%` for another one.
 const SHAPES: [&str; 57] = [
     "", "\n", "\t", "@", "@\n", "@\t", "@\t\n", "@\t1", "@\t1\n", "@\t1\t", "@\t1\t2", "@\t1\t16", "@\t1\t17",
     "@\t1\t0", "@\t1\t02", "@\t0\t2\n", "@\t2\t2\n", "@\t9\t2\n", "@\t01\t2\n", "@\t11\t2\n", "@\t1.0\t2\n",
@@ -27,11 +27,11 @@ pub const COUNT: usize = NUMBERS.len() + SHAPES.len() + DRAWN;
 /// The headers that are drawn: words with a fault, and numbers out of range and in it.
 const DRAWN: usize = 16;
 
-/// Header `turn` for both programs, with a few good lines after it or none.
+/// Header `turn` for each program, with a few good lines after it or none.
 pub fn cases(rng: &mut Rng, turn: usize) -> Vec<Case> {
     let turn = turn % COUNT;
     let mut all = Vec::new();
-    for program in PROGRAMS {
+    for program in LINED {
         let header = match turn {
             // the word without one of its letters
             0..=4 => program.word().replacen(letter(program.word(), turn), "", 1) + "\t1\t2\n",

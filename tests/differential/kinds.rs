@@ -1,14 +1,14 @@
 //! The kinds of case, and how many of each the short and the long form run.
 
 use crate::aimed::{aimed, arbiter_trace};
-use crate::case::{plain, sample, stimulus_text, trace_text, Case, Feed, Program, Promise, PROGRAMS};
+use crate::case::{plain, sample, stimulus_text, trace_text, Case, Feed, Program, Promise, LINED};
 use crate::chaos::{chaotic, random_trace};
 use crate::reference::arbiter;
 use crate::reference::judge::RULES;
 use crate::reference::lines::Inputs;
 use crate::rng::Rng;
 use crate::traffic::lawful;
-use crate::{codes, damage, edges, headers, mutate, runs};
+use crate::{codes, damage, edges, faults, headers, mutate, runs, spoil, sweeps, there};
 
 /// A kind makes the cases of its turn; the turns go round the numbers of masters.
 pub struct Kind {
@@ -23,7 +23,7 @@ fn masters(turn: usize) -> usize {
     2 + turn % 15
 }
 
-pub const KINDS: [Kind; 21] = [
+pub const KINDS: [Kind; 33] = [
     Kind { name: "lawful traffic", make: lawful_runs, short: 120, long: 900 },
     Kind { name: "chaotic stimuli", make: chaotic_runs, short: 120, long: 900 },
     Kind { name: "random traces", make: random_traces, short: 90, long: 900 },
@@ -45,6 +45,18 @@ pub const KINDS: [Kind; 21] = [
     Kind { name: "cut at an edge", make: edges::cut, short: 80, long: 310 },
     Kind { name: "breach after breach", make: edges::broken, short: 45, long: 180 },
     Kind { name: "charged at an edge", make: edges::charged, short: edges::CHARGED * 2, long: edges::CHARGED * 6 },
+    Kind { name: "dumps there and back", make: |rng, turn| there::and_back(rng, masters(turn)), short: 90, long: 900 },
+    Kind { name: "dumps of rough traces", make: |rng, turn| there::rough(rng, masters(turn)), short: 60, long: 600 },
+    Kind { name: "headers of dumps", make: there::headers, short: there::HEADERS, long: there::HEADERS * 3 },
+    Kind { name: "a header's byte changed", make: |_, turn| sweeps::headers(turn), short: sweeps::HEADER, long: sweeps::HEADER },
+    Kind { name: "a dump cut at every byte", make: |_, turn| there::cut(turn), short: there::CUTS, long: there::CUTS },
+    Kind { name: "every byte in a step", make: |_, turn| sweeps::bytes(turn), short: sweeps::BYTES, long: sweeps::BYTES },
+    Kind { name: "one fault in a step", make: one_in_a_step, short: faults::FAULTS.len() * 18, long: faults::FAULTS.len() * 150 },
+    Kind { name: "several faults in a step", make: |rng, turn| faults::several(rng, masters(turn)), short: 240, long: 3000 },
+    Kind { name: "long steps", make: long_steps, short: 160, long: 1600 },
+    Kind { name: "bytes of a dump changed", make: |rng, turn| spoil::bytes(rng, masters(turn)), short: 300, long: 3000 },
+    Kind { name: "lines of a dump moved", make: |rng, turn| spoil::lines(rng, masters(turn)), short: 180, long: 1800 },
+    Kind { name: "dumps otherwise", make: otherwise, short: 132, long: 1100 },
 ];
 
 /// A stimulus for the arbiter, and the trace that comes of it for the judge.
@@ -136,15 +148,32 @@ fn block_sizes(rng: &mut Rng, turn: usize) -> Vec<Case> {
     damage::blocks(rng, masters(turn), turn)
 }
 
+fn one_in_a_step(rng: &mut Rng, turn: usize) -> Vec<Case> {
+    faults::single(rng, masters(turn), turn)
+}
+
+fn long_steps(rng: &mut Rng, turn: usize) -> Vec<Case> {
+    faults::long(rng, masters(turn), turn)
+}
+
+/// Dumps fed in pieces, followed by something, and as long as usual buffers.
+fn otherwise(rng: &mut Rng, turn: usize) -> Vec<Case> {
+    match turn % 12 {
+        0..=3 => there::in_pieces(rng, masters(turn)),
+        4..=9 => there::extra(rng, masters(turn)),
+        _ => there::blocks(rng, masters(turn), turn / 12 + turn % 12 * 5),
+    }
+}
+
 /// Inputs fed a byte at a time, or in pieces that fit no line; some of them are refused.
 fn in_pieces(rng: &mut Rng, turn: usize) -> Vec<Case> {
     let n = masters(turn);
     let mut all = Vec::new();
-    for program in PROGRAMS {
+    for program in LINED {
         let cycles = rng.within(0, 12);
         let (input, sizes) = match rng.below(3) {
             0 => (sample(rng, program, n, cycles), vec![1]),
-            1 => (damage::bytes(rng, n).swap_remove(usize::from(program == Program::Judge)).input, vec![1]),
+            1 => (damage::damaged(rng, program, n).input, vec![1]),
             _ => {
                 let usual = [1, 2, 3, 5, 7, 15, 16, 17, 30, 31, 32, 33, 61, 64, 100];
                 let sizes = (0..rng.within(1, 5)).map(|_| rng.pick(&usual)).collect();

@@ -8,8 +8,10 @@ mod case;
 mod chaos;
 mod codes;
 mod damage;
+mod dump;
 mod edges;
 mod examples;
+mod faults;
 mod headers;
 mod kinds;
 mod mutate;
@@ -21,10 +23,13 @@ mod rng;
 mod runner;
 mod runs;
 mod save;
+mod spoil;
+mod sweeps;
 mod tally;
+mod there;
 mod traffic;
 
-use case::{Case, Program, Promise};
+use case::{Case, Promise};
 use kinds::KINDS;
 use options::{Options, USAGE};
 use rng::Rng;
@@ -139,10 +144,7 @@ fn work(options: &Options, jobs: &[Job], next: &AtomicUsize, tally: &Mutex<Tally
 fn try_case(options: &Options, name: &str, case: &Case, tally: &Mutex<Tally>) -> Result<(), String> {
     let expected = case.program.reference(&case.input);
     let seen = tally::read_answer(case.program, &expected);
-    let command = match case.program {
-        Program::Arbiter => &options.arbiter,
-        Program::Judge => &options.judge,
-    };
+    let command = &options.commands[case.program as usize];
     let got = runner::run(command, case).map_err(|error| format!("cannot start {}: {error}", command[0]))?;
     let fault = if !seen.keeps(&case.promise, &expected) {
         Some("the reference's own answer is not what it should be")

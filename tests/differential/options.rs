@@ -1,14 +1,14 @@
 //! The words on the command line.
 
+use crate::case::PROGRAMS;
 use std::path::PathBuf;
 
-pub const USAGE: &str = "usage: differential --arbiter \"COMMAND\" --judge \"COMMAND\"
+pub const USAGE: &str = "usage: differential --arbiter \"COMMAND\" --judge \"COMMAND\" --trace2vcd \"COMMAND\" --vcd2trace \"COMMAND\"
     [--long] [--seed N] [--jobs N] [--examples FOLDER] [--out FOLDER]";
 
 pub struct Options {
-    /// How to start the programs under test: the command and its words.
-    pub arbiter: Vec<String>,
-    pub judge: Vec<String>,
+    /// How to start each program under test: the command and its words.
+    pub commands: [Vec<String>; 4],
     pub long: bool,
     pub seed: u64,
     pub jobs: usize,
@@ -21,8 +21,7 @@ pub struct Options {
 impl Options {
     pub fn read(words: impl Iterator<Item = String>) -> Result<Options, String> {
         let mut options = Options {
-            arbiter: Vec::new(),
-            judge: Vec::new(),
+            commands: Default::default(),
             long: false,
             seed: 20,
             jobs: std::thread::available_parallelism().map_or(1, usize::from),
@@ -38,9 +37,11 @@ impl Options {
             let value = words.next().ok_or(format!("{word} is unknown or wants a value"))?;
             let number = || value.parse::<u64>().map_err(|_| format!("{word} wants a number"));
             let command = || value.split_whitespace().map(String::from).collect();
+            if let Some(program) = PROGRAMS.iter().find(|program| word.strip_prefix("--") == Some(program.name())) {
+                options.commands[*program as usize] = command();
+                continue;
+            }
             match word.as_str() {
-                "--arbiter" => options.arbiter = command(),
-                "--judge" => options.judge = command(),
                 "--seed" => options.seed = number()?,
                 "--jobs" => options.jobs = number()?.max(1) as usize,
                 "--examples" => options.examples = Some(PathBuf::from(value)),
@@ -48,9 +49,9 @@ impl Options {
                 _ => return Err(format!("{word} is unknown")),
             }
         }
-        if options.arbiter.is_empty() || options.judge.is_empty() {
-            return Err("--arbiter and --judge are needed".to_string());
+        match PROGRAMS.iter().find(|program| options.commands[**program as usize].is_empty()) {
+            Some(program) => Err(format!("--{} is needed", program.name())),
+            None => Ok(options),
         }
-        Ok(options)
     }
 }

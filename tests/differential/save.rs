@@ -1,6 +1,6 @@
 //! Keeps the files of a mismatch: the input, what was expected, and what came.
 
-use crate::case::{Case, Program};
+use crate::case::Case;
 use crate::runner::Outcome;
 use std::fs;
 use std::io;
@@ -22,10 +22,7 @@ pub fn clear(folder: &Path) -> io::Result<()> {
 
 /// Writes the files of mismatch `number` and gives their names.
 pub fn mismatch(folder: &Path, number: usize, case: &Case, expected: &[u8], got: &Outcome) -> io::Result<String> {
-    let input = match case.program {
-        Program::Arbiter => "input.stim",
-        Program::Judge => "input.trace",
-    };
+    let input = format!("input.{}", case.program.word());
     let mut names = Vec::new();
     let mut keep = |ending: &str, bytes: &[u8]| -> io::Result<()> {
         let path = folder.join(format!("{PREFIX}{number:03}.{ending}"));
@@ -33,7 +30,7 @@ pub fn mismatch(folder: &Path, number: usize, case: &Case, expected: &[u8], got:
         names.push(path.display().to_string());
         Ok(())
     };
-    keep(input, &case.input)?;
+    keep(&input, &case.input)?;
     keep("expected", expected)?;
     keep("got", &got.stdout)?;
     if !got.stderr.is_empty() {

@@ -1,6 +1,6 @@
 //! What was seen: cases and mismatches by kind, charges by rule, refusals by program.
 
-use crate::case::{Program, Promise};
+use crate::case::{Program, Promise, PROGRAMS};
 use crate::reference::judge::RULES;
 use std::collections::BTreeMap;
 use std::fmt::Write;
@@ -11,8 +11,8 @@ pub struct Tally {
     kinds: Vec<(String, usize, usize)>,
     /// Charges and reports by rule.
     rules: BTreeMap<String, (usize, usize)>,
-    /// Refusals by number, for the arbiter and for the judge.
-    refusals: BTreeMap<usize, [usize; 2]>,
+    /// Refusals by number, for each program.
+    refusals: BTreeMap<usize, [usize; 4]>,
     pub mismatches: usize,
     /// Runs that did not end in time.
     pub late: usize,
@@ -24,7 +24,7 @@ pub struct Seen {
     refusal: Option<usize>,
 }
 
-/// Reads an answer of the reference: a report, or a trace of which only the last line matters.
+/// Reads an answer of the reference: a report, or a trace or a dump of which only the last line matters.
 pub fn read_answer(program: Program, answer: &[u8]) -> Seen {
     let text = String::from_utf8_lossy(answer);
     let mut rules = BTreeMap::new();
@@ -47,7 +47,8 @@ impl Seen {
             Promise::Nothing => true,
             Promise::Clean => self.rules.is_empty() && self.refusal.is_none(),
             Promise::NoGuarantee => !self.rules.keys().any(|rule| rule.starts_with('G')),
-            Promise::Stored(stored) => stored == answer,
+            Promise::Stored(known) | Promise::Known(known) => known == answer,
+            Promise::Refused(line, number) => answer.ends_with(format!("refused\t{line}\t{number}\n").as_bytes()),
         }
     }
 }
@@ -87,16 +88,15 @@ impl Tally {
     }
 
     /// What should have come up and did not. Refusal 8 takes a run of a million cycles, which only the
-    /// long form has; the arbiter reads no HMASTER and cannot give 7.
+    /// long form has.
     pub fn missing(&self, long: bool) -> Vec<String> {
         let rules = RULES.iter().filter(|(name, _)| !self.rules.contains_key(*name));
         let mut missing: Vec<String> = rules.map(|(name, _)| format!("rule {name}")).collect();
-        for number in 1..=if long { 8 } else { 7 } {
-            let seen = self.refusals.get(&number).copied().unwrap_or_default();
-            for program in [Program::Arbiter, Program::Judge] {
-                let reachable = program == Program::Judge || number != 7;
-                if reachable && seen[program as usize] == 0 {
-                    missing.push(format!("refusal {number} of {program:?}"));
+        for program in PROGRAMS {
+            for number in program.refusals() {
+                let seen = self.refusals.get(number).is_some_and(|seen| seen[program as usize] > 0);
+                if !seen && (long || *number != 8) {
+                    missing.push(format!("refusal {number} of {}", program.name()));
                 }
             }
         }
@@ -114,10 +114,11 @@ impl Tally {
             let (charges, reports) = self.rules.get(name).copied().unwrap_or_default();
             writeln!(out, "{name:<26}{charges:>9}{reports:>12}").unwrap();
         }
-        writeln!(out, "\n{:<26}{:>9}{:>12}", "refusal", "arbiter", "judge").unwrap();
-        for number in 1..=8 {
-            let [arbiter, judge] = self.refusals.get(&number).copied().unwrap_or_default();
-            writeln!(out, "{number:<26}{arbiter:>9}{judge:>12}").unwrap();
+        let [arbiter, judge, writer, reader] = PROGRAMS.map(Program::name);
+        writeln!(out, "\n{:<26}{arbiter:>9}{judge:>12}{writer:>12}{reader:>12}", "refusal").unwrap();
+        for number in (1..=8).chain(12..=14) {
+            let [arbiter, judge, writer, reader] = self.refusals.get(&number).copied().unwrap_or_default();
+            writeln!(out, "{number:<26}{arbiter:>9}{judge:>12}{writer:>12}{reader:>12}").unwrap();
         }
         out
     }
