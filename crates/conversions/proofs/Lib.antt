@@ -1,7 +1,6 @@
 pub mod DumpNear
 pub mod DumpLines
 pub mod DumpCounted
-pub mod DumpWhole
 pub mod DumpPromises
 -- The laws of the converting programs.
 pub mod UndumpFacts

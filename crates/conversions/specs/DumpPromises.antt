@@ -7,20 +7,13 @@ use mathlib.Core.Path.{_≡_}
 use mathlib.Core.Bool.{true}
 use mathlib.Core.List.{List, [], _++_}
 use lib.ListN.{length, take, drop}
-use Rattle.rules.specs.declared.Refusal.{Refusal}
-use Rattle.rules.specs.declared.Refusal.the-variants.{Full}
-use Rattle.rules.specs.declared.Cycle.{Cycle}
 use Rattle.rules.specs.Codes.{mostCycles, fewestMasters, mostMasters}
 use Rattle.formats.specs.declared.Word.the-variants.{Trace}
 use Rattle.formats.specs.declared.HeaderRead.{HeaderRead}
 use Rattle.formats.specs.declared.HeaderRead.the-variants as head
 use Rattle.formats.specs.Fields.{width}
-use Rattle.formats.specs.declared.TraceRead.the-variants.{Line, Refused}
-use Rattle.formats.specs.Lines.{traceFields, readTraceOf}
+use Rattle.formats.specs.Lines.{traceFields}
 use Rattle.formats.specs.Headers.{readHeaderOf}
-use Rattle.formats.specs.Files.{traceFile}
-use Rattle.formats.specs.Report.{refusedLine}
-use Rattle.formats.specs.Promises.{InRange, Each, ValidCycle}
 use Rattle.streams.specs.declared.Flow.the-variants.{GoesOn}
 use Rattle.streams.specs.Streams.{written, then}
 use Rattle.streams.specs.Heads.{headSize}
@@ -28,22 +21,11 @@ use Rattle.streams.specs.Blocks.{joined, inBlocks, AllWhole, flowAnswer}
 use Rattle.streams.specs.Stays.{kept}
 use Rattle.streams.specs.Enough.{hasStopped}
 use Rattle.waves.specs.Header.{dumpHeader}
-use Rattle.waves.specs.Files.{dump}
 use Rattle.conversions.specs.declared.Position.{Position}
 use Rattle.conversions.specs.Positions.{startAt, positionFormed}
 use Rattle.conversions.specs.Dumping.{dumpTurn, firstLine, dumpProgram}
 use Rattle.conversions.specs.Blocks.{dumpStretch, dumpBlockOf, dumpBlockLeft}
 use Rattle.conversions.specs.Heads.{dumpHeadRoom, dumpHeaded, dumpHeadOf, dumpHeadLeft}
-
--- The dump of a trace. "A refusal is the last line, `refused`, line, number, after what was already written": cycle t stands in line t + 2.
-pub record DumpOfATrace : Type 0 where
-  pub whole : (n : ℕ) (cs : List Cycle) → InRange n → Each (ValidCycle n) cs → length cs ≤ mostCycles → dumpProgram (traceFile n cs) ≡ dump n cs
-  pub refused : (n : ℕ) (cs : List Cycle) (rest : List ℕ) (r : Refusal) → InRange n → Each (ValidCycle n) cs → length cs ≤ mostCycles
-      → readTraceOf n rest 0 ≡ Refused r
-      → dumpProgram (traceFile n cs ++ rest) ≡ dump n cs ++ refusedLine (length cs + 2) r
-  pub full : (n : ℕ) (cs : List Cycle) (rest : List ℕ) (c : Cycle) (next : ℕ) → InRange n → Each (ValidCycle n) cs → length cs ≡ mostCycles
-      → readTraceOf n rest 0 ≡ Line c next
-      → dumpProgram (traceFile n cs ++ rest) ≡ dump n cs ++ refusedLine (length cs + 2) Full
 
 -- What the program writes is a function of the bytes it reads: the same wherever the input is cut into blocks of trace lines of 31 bytes, and
 -- a last one that may be cut.
