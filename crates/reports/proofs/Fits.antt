@@ -2,7 +2,7 @@
 --
 --   fits            == a writer of bytes that fit writes them
 --   refused-fits, end-fits, breach-fits, header-fits == so do those of the report's lines and of the header
-use Prim.Native.Nat.{ℕ, _+_, _^_, _≤_, _<_}
+use Prim.Native.Nat.{ℕ, _^_, _≤_, _<_}
 use mathlib.Core.Path.{_≡_, ap, _∙_}
 use mathlib.Core.Bool.{true}
 use mathlib.Core.List.{List}
@@ -12,7 +12,6 @@ use lib.ListN.{length}
 use Rattle.rules.specs.declared.Refusal.{Refusal}
 use Rattle.rules.specs.declared.Check.{Check}
 use Rattle.rules.specs.declared.Check.the-variants.{Good}
-use Rattle.rules.specs.Codes.{mostCycles}
 use Rattle.rules.specs.State.{mastersOk}
 use Rattle.rulebook.specs.declared.Rule.{Rule}
 use Rattle.formats.specs.declared.Written.{Written}
@@ -37,7 +36,7 @@ module _ (bytes buffer out : List ℕ) (w : Written) (k : ℕ) where
 
 -- the calls that write them
 module _ (buffer out : List ℕ) (w : Written) (k : ℕ) where
-  pub refused-fits : (line : ℕ) (r : Refusal) → line ≤ mostCycles + 2 → 31 ≤ length buffer
+  pub refused-fits : (line : ℕ) (r : Refusal) → line < 10 ^ 10 → 31 ≤ length buffer
       → (w ≡ writeOf (refusedLine line r) (length buffer)) × (out ≡ writtenOf (refusedLine line r) buffer) → k ≡ sizeOf w
       → Put (refusedLine line r) buffer k out
   refused-fits line r h room e size = fits (refusedLine line r) buffer out w k (omega (arith, refused-size line r h)) e size

@@ -5,9 +5,8 @@ use rulebook::Rule;
 use rules::Refusal;
 ghost use mathlib.Core.Path.{_≡_};
 ghost use mathlib.Core.Bool.{true};
-ghost use Prim.Native.Nat.{_+_, _^_, _≤_, _<_};
+ghost use Prim.Native.Nat.{_^_, _≤_, _<_};
 ghost use lib.ListN.{length, getD};
-ghost use Rattle.rules.specs.Codes.{mostCycles};
 ghost use Rattle.rules.specs.State.{mastersOk};
 ghost use Rattle.rulebook.specs.declared.Rule.the-variants.{A1};
 ghost use Rattle.rulebook.specs.Rules.{rules};
@@ -30,7 +29,7 @@ fn size(w: Written) -> usize
 
 // The line of a refusal.
 pub fn put_refused(line: u32, r: Refusal, out: &mut [u8]) -> usize
-    requires { ⌜ (line ≤ mostCycles + 2) × (31 ≤ length (now out)) ⌝ }
+    requires { ⌜ 31 ≤ length (now out) ⌝ }
     ensures { λ k. ⌜ Put (refusedLine line r) (now (out .entry)) k (now (out .exit)) ⌝ }
 {
     let w = headers::write_refused(line, r, out);

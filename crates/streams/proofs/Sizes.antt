@@ -2,7 +2,7 @@
 --
 --   refused-size, end-size, header-size, breach-size == the lengths
 --   went, ended     == a line that goes on, and one that stops, by what it wrote
-use Prim.Native.Nat.{ℕ, _+_, _^_, _≤_, _<_}
+use Prim.Native.Nat.{ℕ, _^_, _≤_, _<_}
 use mathlib.Core.Path.{_≡_, refl, ap, _∙_}
 use mathlib.Core.Bool.{Bool, true, false, _&&_}
 use mathlib.Core.List.{List, [], _∷_, List·Memᴰ, List·Memᴰ·head, List·Memᴰ·tail}
@@ -12,7 +12,6 @@ use lib.Dec.{leb}
 use lib.ListN.{length, length-append}
 use Rattle.rules.specs.declared.Refusal.{Refusal}
 use Rattle.rules.specs.Refusals.{numberOf}
-use Rattle.rules.specs.Codes.{mostCycles}
 use Rattle.rules.proofs.Choice.{and-left, and-right}
 use Rattle.rulebook.specs.declared.Rule.{Rule}
 use Rattle.rulebook.proofs.Listed.{every-rule}
@@ -28,10 +27,10 @@ use Rattle.streams.specs.Turns.{Put, Lined}
 decimal-size : (v : ℕ) → v < 10 ^ 10 → length (decimal v) ≤ 10
 decimal-size v h = in-decimal v h .few
 
-pub refused-size : (line : ℕ) (r : Refusal) → line ≤ mostCycles + 2 → length (refusedLine line r) ≤ 31
+pub refused-size : (line : ℕ) (r : Refusal) → line < 10 ^ 10 → length (refusedLine line r) ≤ 31
 unfolding refusedLine
 refused-size line r h =
-    let a = decimal-size line (omega arith) in
+    let a = decimal-size line h in
     let b = decimal-size (numberOf r) (refusal-bound r) in
     simp length-append (omega arith)
 
