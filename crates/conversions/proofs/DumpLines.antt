@@ -1,72 +1,40 @@
 -- One line of the program trace2vcd.
 --
---   facts-of, test-of == a position passes its test exactly if it has the facts
---   refused-short   == no refusal line has more than 31 bytes
 --   drawn-on, drawn-full, read-none, read-refused == the four ends of a line
 --   dump-program    == it goes by lines, none of which writes more bytes than a step, and the position stays well formed
 --   block-stopped, block-used == the two ends of a block
-use Prim.Native.Nat.{ℕ, _+_, _*_, _^_, _≤_, _<_}
+use Prim.Native.Nat.{ℕ, _≤_, _<_}
 use mathlib.Core.Path.{_≡_, refl, sym, ap, _∙_}
-use mathlib.Core.Bool.{Bool, true, false, _&&_, cond}
+use mathlib.Core.Bool.{true, false}
 use mathlib.Core.List.{List, []}
 use native.Mathlib.Omega.{arith}
-use borrow.Author.Tests.{leb-true, le-leb, leb-false, lt-leb}
+use borrow.Author.Tests.{le-leb, leb-false, lt-leb}
 use lib.Dec.{leb}
-use lib.ListN.{length, length-append}
+use lib.ListN.{length}
 use Rattle.rules.specs.declared.Refusal.{Refusal}
 use Rattle.rules.specs.declared.Refusal.the-variants as refusal
 use Rattle.rules.specs.declared.Cycle.{Cycle}
 use Rattle.rules.specs.Codes.{mostCycles}
-use Rattle.rules.specs.Refusals.{numberOf}
-use Rattle.rules.specs.State.{mastersOk}
-use Rattle.rules.proofs.Choice.{either, and-left, and-right, and-both}
+use Rattle.rules.proofs.Choice.{either}
 use Rattle.formats.specs.declared.TraceRead.{TraceRead}
 use Rattle.formats.specs.declared.TraceRead.the-variants.{Line, NoMore, Refused}
 use Rattle.formats.specs.Lines.{readTraceOf}
 use Rattle.formats.specs.Report.{refusedLine}
-use Rattle.formats.proofs.Decimal.{in-decimal}
-use Rattle.formats.proofs.Report.{refusal-bound}
 use Rattle.streams.specs.declared.Flow.the-variants.{GoesOn, Stopped}
-use Rattle.streams.specs.Streams.{Turn, goes, stops, on, done}
+use Rattle.streams.specs.Streams.{on, done}
 use Rattle.streams.specs.Blocks.{bytesOf}
 use Rattle.streams.specs.Turns.{over, bytesIn, stateAfter, Put, Lined}
 use Rattle.streams.proofs.Lines.{stepping}
-use Rattle.streams.proofs.Sizes.{went, ended}
+use Rattle.streams.proofs.Sizes.{refused-size, went, ended}
 use Rattle.streams.proofs.Stretches.{Program, Ended}
 use Rattle.waves.specs.Steps.{dumpStep}
 use Rattle.waves.proofs.Promises.{steps-are-short}
 use Rattle.conversions.specs.declared.Position.{Position}
-use Rattle.conversions.specs.Positions.{after, positionFormed}
+use Rattle.conversions.specs.Positions.{after}
 use Rattle.conversions.specs.Dumping.{drawn, dumpTurn}
 use Rattle.conversions.specs.Blocks.{asConverted, dumpStretch}
+use Rattle.conversions.proofs.Positions.{Formed, Facts, facts-of, test-of}
 use Rattle.conversions.proofs.DumpNear.{dump-by-lines}
-
-abbrev pub Formed : Position → Type 0
-Formed p = positionFormed p ≡ true
-
-pub record Facts (p : Position) : Type 0 where
-  pub masters : mastersOk (p .n) ≡ true
-  pub room : p .count ≤ mostCycles
-  pub lines : p .line ≤ 12 * p .count + 17
-
-pub facts-of : (p : Position) → Formed p → Facts p
-unfolding positionFormed
-facts-of p e =
-    let m : mastersOk (p .n) ≡ true = search (and-left, and-right) depth 4 in
-    let r : leb (p .count) mostCycles ≡ true = search (and-left, and-right) depth 4 in
-    let l : leb (p .line) (12 * p .count + 17) ≡ true = search (and-left, and-right) depth 4 in
-    record { masters = m; room = leb-true _ _ r; lines = leb-true _ _ l }
-
-pub test-of : (p : Position) → Facts p → Formed p
-unfolding positionFormed
-test-of p f = and-both (and-both (f .masters) (le-leb _ _ (f .room))) (le-leb _ _ (f .lines))
-
-pub refused-short : (line : ℕ) (r : Refusal) → line < 10 ^ 10 → length (refusedLine line r) ≤ 31
-unfolding refusedLine
-refused-short line r h =
-    let a = in-decimal line h .few in
-    let b = in-decimal (numberOf r) (refusal-bound r) .few in
-    simp length-append (omega arith)
 
 module _ (p : Position) (rest : List ℕ) (a : TraceRead) (e : a ≡ readTraceOf (p .n) rest 0) (buffer : List ℕ) (k : ℕ) (out : List ℕ) where
   found : (r : TraceRead) → a ≡ r → dumpTurn p rest ≡ drawn r p
@@ -95,7 +63,7 @@ read-none p rest a buffer e f =
 
 module _ (p : Position) (f : Facts p) where
   few-refused : (r : Refusal) → length (refusedLine (p .line) r) ≤ 104
-  few-refused r = omega (arith, refused-short (p .line) r (omega (arith, f .lines, f .room)))
+  few-refused r = omega (arith, refused-size (p .line) r (omega (arith, f .lines, f .room)))
 
   few-drawn : (r : TraceRead) → length (bytesIn (drawn r p)) ≤ 104
   few-drawn (Line c next) =

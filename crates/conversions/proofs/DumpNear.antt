@@ -2,14 +2,13 @@
 --
 --   dump-goes       == what a turn that goes on has read and written
 --   dump-by-lines   == the turns of the program
-use Prim.Native.Nat.{ℕ, _≤_, _<_}
+use Prim.Native.Nat.{ℕ, _<_}
 use mathlib.Core.Path.{_≡_, refl, ap}
 use mathlib.Core.Bool.{Bool, true, false, cond}
 use mathlib.Core.List.{List, []}
 use native.Mathlib.Omega.{arith}
 use borrow.Author.Tests.{leb-false}
 use lib.Dec.{leb}
-use lib.ListN.{length}
 use Rattle.rules.specs.declared.Refusal.the-variants as refusal
 use Rattle.rules.specs.declared.Cycle.{Cycle}
 use Rattle.rules.specs.Codes.{mostCycles}
@@ -18,7 +17,7 @@ use Rattle.formats.specs.declared.TraceRead.{TraceRead}
 use Rattle.formats.specs.declared.TraceRead.the-variants.{Line, NoMore, Refused}
 use Rattle.formats.specs.Lines.{place, readTraceOf}
 use Rattle.formats.specs.Report.{refusedLine}
-use Rattle.streams.specs.Streams.{Turn, goes, stops}
+use Rattle.streams.specs.Streams.{goes, stops}
 use Rattle.streams.specs.Blocks.{ByLines}
 use Rattle.streams.proofs.Near.{trace-near, trace-line}
 use Rattle.waves.specs.Steps.{dumpStep}

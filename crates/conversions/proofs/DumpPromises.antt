@@ -1,7 +1,6 @@
 -- What is promised of the program trace2vcd as it runs.
-use Prim.Native.Nat.{ℕ, suc, _*_}
+use Prim.Native.Nat.{ℕ, suc}
 use mathlib.Core.Path.{_≡_, refl, ap, _∙_}
-use mathlib.Core.Bool.{true}
 use mathlib.Core.List.{List, _++_}
 use native.Mathlib.Omega.{arith}
 use borrow.Author.Tests.{lt-ltb, le-ltb}
@@ -13,10 +12,8 @@ use Rattle.formats.specs.declared.HeaderRead.{HeaderRead}
 use Rattle.formats.specs.declared.HeaderRead.the-variants as head
 use Rattle.formats.specs.Lines.{place, readTraceOf}
 use Rattle.formats.specs.Headers.{readHeaderOf}
-use Rattle.streams.specs.declared.Flow.the-variants.{GoesOn}
-use Rattle.streams.specs.Streams.{Stretch, on, done, written}
-use Rattle.streams.specs.Blocks.{joined, flowAnswer}
-use Rattle.streams.specs.Stays.{kept as keptAfter}
+use Rattle.streams.specs.Streams.{written}
+use Rattle.streams.specs.Blocks.{joined}
 use Rattle.streams.proofs.Lines.{stepping, cutting, all-cut}
 use Rattle.streams.proofs.Cut.{in-blocks}
 use Rattle.streams.proofs.Heads.{head-near, head-size}
@@ -24,15 +21,16 @@ use Rattle.streams.proofs.Promises.{shorter, kept}
 use Rattle.streams.proofs.Stays.{stays-formed}
 use Rattle.streams.proofs.Enough.{whole-used, more-stop, on-only}
 use Rattle.waves.specs.Header.{dumpHeader}
-use Rattle.conversions.specs.declared.Position.{Position}
 use Rattle.conversions.specs.declared.Converted.{Converted}
 use Rattle.conversions.specs.Positions.{startAt, positionFormed}
 use Rattle.conversions.specs.Dumping.{dumpTurn, firstLine, dumpProgram}
 use Rattle.conversions.specs.Blocks.{asConverted, dumpRoom, dumpStretch, dumpBlockOf, dumpBlockLeft}
 use Rattle.conversions.specs.Heads.{dumpHeaded, dumpHeadOf, dumpHeadLeft}
 use Rattle.conversions.specs.DumpPromises.{dumpRun, DumpInBlocks, DumpAsRun, DumpEnds, DumpStaysFormed, DumpBlocksAreCounted, DumpMoreLinesStop, DumpRefusedBlocksKept, DumpHeadsByNumber}
+use Rattle.conversions.proofs.Positions.{facts-of, test-of}
+use Rattle.conversions.proofs.Answers.{converted-taken, converted-on, converted-kept}
 use Rattle.conversions.proofs.DumpNear.{dump-by-lines}
-use Rattle.conversions.proofs.DumpLines.{facts-of, test-of, dump-program}
+use Rattle.conversions.proofs.DumpLines.{dump-program}
 use Rattle.conversions.proofs.DumpCounted.{dump-counts, stays-level}
 
 pub dump-in-blocks : DumpInBlocks
@@ -60,14 +58,6 @@ dump-stays-formed = (
   λ p block e. stays-formed dump-program (length block) p block e,
 )
 
-converted-on : (x : Stretch Position) → asConverted x .flow ≡ GoesOn → (bytes : List ℕ) × (x ≡ on bytes (asConverted x .position))
-converted-on (on bytes p) e = (bytes, refl)
-converted-on (done bytes p) e = let z : _≡_ {A = ℕ} 0 1 = cc in absurd (omega arith)
-
-converted-kept : (x : Stretch Position) → asConverted x .position ≡ keptAfter x
-converted-kept (on bytes p) = refl
-converted-kept (done bytes p) = refl
-
 pub dump-blocks-are-counted : DumpBlocksAreCounted
 unfolding dumpBlockOf
 dump-blocks-are-counted =
@@ -89,10 +79,6 @@ dump-blocks-are-counted =
 
 pub dump-more-lines-stop : DumpMoreLinesStop
 dump-more-lines-stop p block h = more-stop dumpTurn (stepping dump-by-lines) (λ p. p .count) dump-counts p block h
-
-converted-taken : (x : Stretch Position) → flowAnswer (asConverted x .flow) ≡ 0
-converted-taken (on bytes p) = refl
-converted-taken (done bytes p) = refl
 
 pub dump-refused-blocks-kept : DumpRefusedBlocksKept
 unfolding dumpBlockOf dumpBlockLeft

@@ -1,6 +1,9 @@
+pub mod Positions
+pub mod Answers
 pub mod DumpNear
 pub mod DumpLines
 pub mod DumpCounted
+pub mod DumpHeads
 pub mod DumpPromises
 -- The laws of the converting programs.
 pub mod UndumpFacts
