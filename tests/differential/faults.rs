@@ -274,21 +274,21 @@ fn not_built(rng: &mut Rng, dump: &mut Dump, t: usize) -> Option<usize> {
     Some(5)
 }
 
+/// A master that is not there, mostly the first of them.
+fn stranger(rng: &mut Rng, n: usize) -> Option<u16> {
+    (n < 16).then(|| if rng.flag() { n as u16 } else { rng.within(n, 15) as u16 })
+}
+
 fn absent(rng: &mut Rng, dump: &mut Dump, t: usize) -> Option<usize> {
-    if dump.n == 16 {
-        return None;
-    }
     let column = rng.pick(&MASKS);
-    let value = values(&dump.trace[t])[column] | 1 << rng.within(dump.n, 15);
+    let value = values(&dump.trace[t])[column] | 1 << stranger(rng, dump.n)?;
     dump.set(t, column, value);
     Some(6)
 }
 
 fn owner(rng: &mut Rng, dump: &mut Dump, t: usize) -> Option<usize> {
-    if dump.n == 16 {
-        return None;
-    }
-    dump.set(t, 6, rng.within(dump.n, 15) as u16);
+    let value = stranger(rng, dump.n)?;
+    dump.set(t, 6, value);
     Some(7)
 }
 
@@ -300,16 +300,39 @@ fn drawn(rng: &mut Rng, n: usize) -> (Dump, usize) {
     (dump, step)
 }
 
+/// The case of a fault in a step, if it has room for it.
+fn spoiled(rng: &mut Rng, mut dump: Dump, t: usize, fault: usize) -> Option<Case> {
+    let line = dump.line(t);
+    let number = FAULTS[fault % FAULTS.len()].1(rng, &mut dump, t)?;
+    Some(Case { promise: Promise::Refused(line, number), ..plain(Program::Vcd2trace, dump.text()) })
+}
+
 /// Fault `turn`, in a step that has room for it.
 pub fn single(rng: &mut Rng, n: usize, turn: usize) -> Vec<Case> {
-    for _ in 0..50 {
-        let (mut dump, t) = drawn(rng, n.min(15));
-        let line = dump.line(t);
-        if let Some(number) = FAULTS[turn % FAULTS.len()].1(rng, &mut dump, t) {
-            return vec![Case { promise: Promise::Refused(line, number), ..plain(Program::Vcd2trace, dump.text()) }];
-        }
+    let mut tries = (0..50).filter_map(|_| {
+        let (dump, t) = drawn(rng, n.min(15));
+        spoiled(rng, dump, t, turn)
+    });
+    tries.next().into_iter().collect()
+}
+
+/// Fault `turn` after thousands of cycles: anywhere, or in a step next to the edge of a block.
+pub fn far(rng: &mut Rng, n: usize, turn: usize) -> Vec<Case> {
+    let cycles = rng.within(2500, 6000);
+    let dump = Dump::of(n.min(15), &any_trace(rng, n.min(15), cycles));
+    let mut ends = Vec::with_capacity(cycles);
+    let mut end = dump.header.len();
+    for step in &dump.steps {
+        end += step.iter().map(Vec::len).sum::<usize>();
+        ends.push(end);
     }
-    Vec::new()
+    let edge = rng.pick(&[4096, 8192, 16384, 32768, 49152, 65536]);
+    let mut tries = (0..50).filter_map(|_| {
+        let near = ends.iter().position(|&end| end + 120 > edge).filter(|_| rng.flag());
+        let t = near.map_or(rng.below(cycles), |t| (t + rng.below(12)).min(cycles - 1));
+        spoiled(rng, dump.clone(), t, turn)
+    });
+    tries.next().into_iter().collect()
 }
 
 /// Two to four faults in one step.

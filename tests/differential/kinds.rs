@@ -23,7 +23,7 @@ fn masters(turn: usize) -> usize {
     2 + turn % 15
 }
 
-pub const KINDS: [Kind; 33] = [
+pub const KINDS: [Kind; 34] = [
     Kind { name: "lawful traffic", make: lawful_runs, short: 120, long: 900 },
     Kind { name: "chaotic stimuli", make: chaotic_runs, short: 120, long: 900 },
     Kind { name: "random traces", make: random_traces, short: 90, long: 900 },
@@ -52,6 +52,7 @@ pub const KINDS: [Kind; 33] = [
     Kind { name: "a dump cut at every byte", make: |_, turn| there::cut(turn), short: there::CUTS, long: there::CUTS },
     Kind { name: "every byte in a step", make: |_, turn| sweeps::bytes(turn), short: sweeps::BYTES, long: sweeps::BYTES },
     Kind { name: "one fault in a step", make: one_in_a_step, short: faults::FAULTS.len() * 18, long: faults::FAULTS.len() * 150 },
+    Kind { name: "one fault far in a dump", make: one_far_in, short: faults::FAULTS.len() * 8, long: faults::FAULTS.len() * 60 },
     Kind { name: "several faults in a step", make: |rng, turn| faults::several(rng, masters(turn)), short: 240, long: 3000 },
     Kind { name: "long steps", make: long_steps, short: 160, long: 1600 },
     Kind { name: "bytes of a dump changed", make: |rng, turn| spoil::bytes(rng, masters(turn)), short: 300, long: 3000 },
@@ -150,6 +151,10 @@ fn block_sizes(rng: &mut Rng, turn: usize) -> Vec<Case> {
 
 fn one_in_a_step(rng: &mut Rng, turn: usize) -> Vec<Case> {
     faults::single(rng, masters(turn), turn)
+}
+
+fn one_far_in(rng: &mut Rng, turn: usize) -> Vec<Case> {
+    faults::far(rng, masters(turn), turn)
 }
 
 fn long_steps(rng: &mut Rng, turn: usize) -> Vec<Case> {
