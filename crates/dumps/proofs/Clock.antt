@@ -3,6 +3,7 @@
 --   at-most-six        == the time of a cycle has six digits at most
 --   short-put          == the line, written digit by digit
 --   long-line          == the line of a time of six digits, as one number
+--   long-fits          == that number has 64 bits
 --   long-put           == that line, written as one number
 use Prim.Native.Nat.{ℕ, zero, suc, _+_, _*_, _/_, _%_, _^_, _≤_, _<_}
 use mathlib.Core.Path.{_≡_, refl, sym, ap, _∙_}
@@ -20,7 +21,7 @@ use Rattle.words.proofs.Words.{none-bytes, one-more, again-bytes}
 use Rattle.formats.specs.Digits.{decimal, decimalBefore}
 use Rattle.waves.specs.Steps.{timeLine}
 use Rattle.fields.proofs.Stores.{set-first}
-use Rattle.dumps.specs.Changed.{Put}
+use Rattle.dumps.specs.Changed.{sixOf, Put}
 
 few-digits : (j k v : ℕ) (l : List ℕ) → v < 10 ^ suc j → length (decimalBefore k v l) ≤ suc j + length l
 unfolding decimalBefore
@@ -44,20 +45,27 @@ short-put t b c r h n e =
       bytes = set-first b c 0 35 (decimal t ++ (10 ∷ [])) e;
     }
 
--- six digits in a number, each in its byte
-abbrev sixOf : ℕ → ℕ → ℕ → ℕ → ℕ → ℕ → ℕ
-sixOf u v w x y z =
-    734139722786418723 + u * 256 + v * 65536 + w * 16777216 + x * 4294967296 + y * 1099511627776 + z * 281474976710656
-
 six-bytes : (u v w x y z : ℕ) → u < 10 → v < 10 → w < 10 → x < 10 → y < 10 → z < 10
-    → lowFirst 8 (sixOf u v w x y z) ≡ 35 ∷ (48 + u) ∷ (48 + v) ∷ (48 + w) ∷ (48 + x) ∷ (48 + y) ∷ (48 + z) ∷ 10 ∷ []
+    → lowFirst 8 (sixOf u v w x y z + 734139722786418723) ≡ 35 ∷ (48 + u) ∷ (48 + v) ∷ (48 + w) ∷ (48 + x) ∷ (48 + y) ∷ (48 + z) ∷ 10 ∷ []
 six-bytes u v w x y z hu hv hw hx hy hz =
     let l : List ℕ = 35 ∷ (48 + u) ∷ (48 + v) ∷ (48 + w) ∷ (48 + x) ∷ (48 + y) ∷ (48 + z) ∷ 10 ∷ [] in
-    let sum : sixOf u v w x y z ≡ numberLow 8 l 0 = omega arith in
+    let sum : sixOf u v w x y z + 734139722786418723 ≡ numberLow 8 l 0 = omega arith in
     ap (lowFirst 8) sum
     ∙ again-bytes 8 l
     (one-more (omega arith) (one-more (omega arith) (one-more (omega arith) (one-more (omega arith) (one-more (omega arith) (one-more (omega arith) (one-more (omega arith) (one-more (omega arith) none-bytes))))))))
     refl
+
+six-fits : (u v w x y z : ℕ) → u < 10 → v < 10 → w < 10 → x < 10 → y < 10 → z < 10 → sixOf u v w x y z + 734139722786418723 < 2 ^ 64
+six-fits u v w x y z hu hv hw hx hy hz = omega arith
+
+-- the digits of a number from its two halves
+halves : (t : ℕ)
+    → (t / 1000 / 100 ≡ t / 100000)
+    × (t / 1000 / 10 ≡ t / 10000)
+    × (t % 1000 / 100 ≡ t / 100 % 10)
+    × (t % 1000 / 10 % 10 ≡ t / 10 % 10)
+    × (t % 1000 % 10 ≡ t % 10)
+halves t = (omega arith, omega arith, omega arith, omega arith, omega arith)
 
 module _ (t : ℕ) (few : 100000 ≤ t) (many : t < mostCycles) where
   -- the digits from the first on, as the definition finds them from the last on
@@ -70,9 +78,22 @@ module _ (t : ℕ) (few : 100000 ≤ t) (many : t < mostCycles) where
       let e5 : t / 10000 / 10 ≡ t / 100000 = omega arith in
       rw (le-ltb t 10 (omega arith), le-ltb (t / 10) 10 (omega arith), e2, le-ltb (t / 100) 10 (omega arith), e3, le-ltb (t / 1000) 10 (omega arith), e4, le-ltb (t / 10000) 10 (omega arith), e5, lt-ltb (t / 100000) 10 (omega arith))
 
-  pub long-line : lowFirst 8 (sixOf (t / 100000) (t / 10000 % 10) (t / 1000 % 10) (t / 100 % 10) (t / 10 % 10) (t % 10)) ≡ timeLine t
+  pub long-line : (r : ℕ)
+      → r ≡ sixOf (t / 1000 / 100) (t / 1000 / 10 % 10) (t / 1000 % 10) (t % 1000 / 100) (t % 1000 / 10 % 10) (t % 1000 % 10)
+      → lowFirst 8 (r + 734139722786418723) ≡ timeLine t
   unfolding timeLine
-  long-line = rw six-digits (six-bytes _ _ _ _ _ _ (omega arith) (omega arith) (omega arith) (omega arith) (omega arith) (omega arith))
+  long-line r e =
+      let h = halves t in
+      rw (e, h .0, h .1, h .2, h .3, h .4, six-digits)
+      (six-bytes _ _ _ _ _ _ (omega arith) (omega arith) (omega arith) (omega arith) (omega arith) (omega arith))
+
+  digits-fit : sixOf (t / 1000 / 100) (t / 1000 / 10 % 10) (t / 1000 % 10) (t % 1000 / 100) (t % 1000 / 10 % 10) (t % 1000 % 10) + 734139722786418723 < 2 ^ 64
+  digits-fit = six-fits _ _ _ _ _ _ (omega arith) (omega arith) (omega arith) (omega arith) (omega arith) (omega arith)
+
+  pub long-fits : (r : ℕ)
+      → r ≡ sixOf (t / 1000 / 100) (t / 1000 / 10 % 10) (t / 1000 % 10) (t % 1000 / 100) (t % 1000 / 10 % 10) (t % 1000 % 10)
+      → r + 734139722786418723 < 2 ^ 64
+  long-fits r e = rw e digits-fit
 
 pub long-put : (t w : ℕ) (b c : List ℕ) → lowFirst 8 w ≡ timeLine t → c ≡ sets b 0 (lowFirst 8 w) → Put b 0 (timeLine t) 8 8 c
 long-put t w b c e f = rw (← e) (record { after = refl; within = omega arith; bytes = f })

@@ -3,8 +3,9 @@
 --   variable w k       == the variable with w bits and the code k
 --   changed all x v u  == the line of the variable x whose value was v and is u, or nothing
 --   inputVariables, outputVariables == the variables of the two parts of a cycle
+--   sixOf u v w x y z  == six digits in one number, a byte each, from the second byte on
 --   Put b at s k r c   == the bytes s, of which there are k at most, stand in c from at on and up to r; the rest is as in b
-use Prim.Native.Nat.{ℕ, _+_, _≤_}
+use Prim.Native.Nat.{ℕ, _+_, _*_, _≤_}
 use mathlib.Core.Path.{_≡_}
 use mathlib.Core.Bool.{Bool, not, _||_, cond}
 use mathlib.Core.List.{List, []}
@@ -25,6 +26,9 @@ inputVariables = coded 33 inputColumns
 
 abbrev pub outputVariables : List Variable
 outputVariables = coded 38 outputColumns
+
+abbrev pub sixOf : ℕ → ℕ → ℕ → ℕ → ℕ → ℕ → ℕ
+sixOf u v w x y z = u * 256 + v * 65536 + w * 16777216 + x * 4294967296 + y * 1099511627776 + z * 281474976710656
 
 pub record Put (b : List ℕ) (at : ℕ) (s : List ℕ) (k r : ℕ) (c : List ℕ) : Type 0 where
   pub after : r ≡ at + length s
