@@ -64,7 +64,10 @@ extern "C" {
 /* The cycles of a run. Beyond them the count may be set back: the arbiter's bytes 8 to 11 to 0, the judge's to 1 (1, 0, 0, 0). */
 #define ESPIGAMBRE_CYCLES 1000000
 
-/* The answers. Refusals 2 and 3 are of headers and lines that are read, and 11 is never given here. */
+/*
+ * The answers. Refusals 2 and 3 are of headers and lines that are read, 12, 13 and 14 of dumps: these calls never give them. 11 is never
+ * given either.
+ */
 enum {
     ESPIGAMBRE_TAKEN = 0,
     ESPIGAMBRE_MASTERS = 1,   /* reset and judge_start: n is not 2 to 16 */
@@ -75,7 +78,10 @@ enum {
     ESPIGAMBRE_FULL = 8,      /* 1,000,000 cycles are taken already */
     ESPIGAMBRE_SHORT = 9,     /* a buffer is shorter than its size above */
     ESPIGAMBRE_STATE = 10,    /* the bytes are no state (no judge), or none that is well formed */
-    ESPIGAMBRE_NOBODY = 11    /* a decision with a request high finds no master: it always finds one */
+    ESPIGAMBRE_NOBODY = 11,   /* a decision with a request high finds no master: it always finds one */
+    ESPIGAMBRE_DUMP = 12,     /* a dump's header is not ours: of dumps, never given by these calls */
+    ESPIGAMBRE_TIME = 13,     /* a step's time is not that of its cycle: the same */
+    ESPIGAMBRE_VARIABLE = 14  /* a step has a value of an unknown variable: the same */
 };
 
 /* The rules as bits of what judge_step calls broken, in the order of the report; docs/RULES.md explains each. */
