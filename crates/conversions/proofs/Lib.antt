@@ -1,3 +1,4 @@
+-- The laws of the converting programs.
 pub mod Positions
 pub mod Answers
 pub mod DumpNear
@@ -5,7 +6,6 @@ pub mod DumpLines
 pub mod DumpCounted
 pub mod DumpHeads
 pub mod DumpPromises
--- The laws of the converting programs.
 pub mod UndumpFacts
 pub mod UndumpSteps
 pub mod UndumpHeads

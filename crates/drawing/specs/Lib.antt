@@ -1,0 +1,2 @@
+-- Where a block of trace lines stops.
+pub mod Stops
