@@ -9,6 +9,5 @@ pub mod DumpPromises
 pub mod UndumpFacts
 pub mod UndumpSteps
 pub mod UndumpHeads
-pub mod UndumpPositions
 pub mod UndumpLines
 pub mod UndumpPromises

@@ -21,7 +21,7 @@ use Rattle.streams.specs.declared.Flow.the-variants.{GoesOn, Stopped}
 use Rattle.streams.specs.Streams.{goes, on, done}
 use Rattle.streams.specs.Blocks.{Stepping, Cutting, bytesOf}
 use Rattle.streams.specs.Turns.{over, bytesIn, stateAfter, takenBy, Put, Lined}
-use Rattle.streams.proofs.Sizes.{went, ended}
+use Rattle.streams.proofs.Sizes.{refused-size, went, ended}
 use Rattle.streams.proofs.Counted.{Counting}
 use Rattle.streams.proofs.Stretches.{Program, Ended}
 use Rattle.waves.specs.Reading.{readStepOf}
@@ -31,7 +31,7 @@ use Rattle.conversions.specs.Positions.{after}
 use Rattle.conversions.specs.Undumping.{recalled, undumpTurn}
 use Rattle.conversions.specs.Blocks.{BetweenSteps, asConverted, undumpStretch}
 use Rattle.conversions.proofs.UndumpFacts.{found}
-use Rattle.conversions.proofs.UndumpPositions.{Formed, Facts, facts-of, test-of, refused-short}
+use Rattle.conversions.proofs.Positions.{Formed, Facts, facts-of, test-of}
 use Rattle.conversions.proofs.UndumpSteps.{goes-by, undump-last, undump-next, undump-near, undump-rest}
 
 pub undump-stepping : Stepping 3 104 undumpTurn
@@ -48,7 +48,7 @@ undump-counts p rest bytes t k e =
 few-recalled : (p : Position) (rest : List ℕ) → Facts p → (r : TraceRead) → length (bytesIn (recalled r p rest)) ≤ 31
 few-recalled p rest f (Line c next) = omega arith
 few-recalled p rest f NoMore = omega arith
-few-recalled p rest f (Refused r) = refused-short (p .line) r (omega (arith, f .lines, f .room))
+few-recalled p rest f (Refused r) = refused-size (p .line) r (omega (arith, f .lines, f .room))
 
 stays-recalled : (p : Position) (rest : List ℕ) → Facts p → (r : TraceRead) → readStepOf (p .n) (p .count) (p .before) rest 0 ≡ r
     → Formed (stateAfter p (recalled r p rest))

@@ -11,33 +11,24 @@ use Rattle.formats.specs.declared.Word.the-variants.{Trace}
 use Rattle.formats.specs.declared.HeaderRead.{HeaderRead}
 use Rattle.formats.specs.declared.HeaderRead.the-variants as head
 use Rattle.formats.specs.Headers.{header}
-use Rattle.streams.specs.declared.Flow.the-variants.{GoesOn}
-use Rattle.streams.specs.Streams.{Stretch, on, done, written}
-use Rattle.streams.specs.Blocks.{joined, inBlocks, AllCut, flowAnswer}
+use Rattle.streams.specs.Streams.{written}
+use Rattle.streams.specs.Blocks.{joined, inBlocks, AllCut}
 use Rattle.streams.proofs.Cut.{in-blocks}
 use Rattle.streams.proofs.Stays.{stays-formed}
 use Rattle.streams.proofs.Enough.{whole-used, more-stop, on-only}
 use Rattle.streams.proofs.Promises.{shorter, kept}
 use Rattle.waves.specs.Header.{readDumpHeaderOf}
 use Rattle.waves.specs.Reading.{readStepOf}
-use Rattle.conversions.specs.declared.Position.{Position}
 use Rattle.conversions.specs.declared.Converted.{Converted}
 use Rattle.conversions.specs.Positions.{startAt, positionFormed}
 use Rattle.conversions.specs.Undumping.{firstStep, undumpTurn, undumpProgram}
 use Rattle.conversions.specs.Blocks.{BetweenSteps, asConverted, undumpRoom, undumpStretch, undumpBlockOf, undumpBlockLeft}
 use Rattle.conversions.specs.Heads.{undumpHeaded, undumpHeadOf, undumpHeadLeft}
 use Rattle.conversions.specs.UndumpPromises.{undumpRun, UndumpAsRun, UndumpStaysFormed, UndumpRefusedKept, UndumpHeadsByNumber, UndumpBlocksAreCounted, MoreStepsStop, UndumpEnds}
-use Rattle.conversions.proofs.UndumpPositions.{facts-of, test-of}
+use Rattle.conversions.proofs.Positions.{facts-of, test-of}
+use Rattle.conversions.proofs.Answers.{converted-taken, converted-on}
 use Rattle.conversions.proofs.UndumpHeads.{undump-head-near, undump-head-size}
 use Rattle.conversions.proofs.UndumpLines.{undump-stepping, undump-cutting, undump-counts, undump-program}
-
-converted-taken : (t : Stretch Position) → flowAnswer (asConverted t .flow) ≡ 0
-converted-taken (on bytes p) = refl
-converted-taken (done bytes p) = refl
-
-converted-on : (t : Stretch Position) → asConverted t .flow ≡ GoesOn → (bytes : List ℕ) × (t ≡ on bytes (asConverted t .position))
-converted-on (on bytes p) e = (bytes, refl)
-converted-on (done bytes p) e = let z : _≡_ {A = ℕ} 0 1 = cc in absurd (omega arith)
 
 undump-in-blocks : (s : List ℕ) (n next : ℕ) (blocks : List (List ℕ)) (last : List ℕ) → readDumpHeaderOf s ≡ head.Header n next
     → drop next s ≡ joined blocks last → AllCut BetweenSteps blocks last
