@@ -20,7 +20,7 @@ use Rattle.waves.specs.Files.{linesIn}
 use Rattle.conversions.specs.declared.Position.{Position}
 use Rattle.conversions.specs.Positions.{startAt, after}
 
--- "for a dump the physical line of its `#`"
+-- a refusal is told by the line of the input in which the step begins, its `#`
 abbrev pub recalled : TraceRead → Position → List ℕ → Turn Position
 recalled (Line c next) p rest = goes (traceLine c) (after p c (linesIn (take next rest))) next
 recalled NoMore p rest = stops []

@@ -59,13 +59,13 @@ HasDump s (whole n cs) = DumpBegins s n cs []
 abbrev pub EveryDumpHasOneForm : Type 0
 EveryDumpHasOneForm = (s : List ℕ) → (f : Form Cycle) × HasDump s f × ((g : Form Cycle) → HasDump s g → g ≡ f)
 
--- "Reading a header: 12 .. in the place of 2, then 1"; "Reading a step: 1, 13, 8, 14, 3, 4, 5, 6, 7", of which 1 is given for no header that was accepted
+-- A header: 12, 1. A step: 1, 13, 8, 14, 3, 4, 5, 6, 7, of which 1 is given for no header that was accepted.
 pub record DumpsRefusedByNumber : Type 0 where
   pub of-a-header : (s : List ℕ) (r : Refusal) → HasDump s (noHeader r) → (numberOf r ≡ 12) ⊎ (numberOf r ≡ 1)
   pub of-a-step : (s : List ℕ) (n : ℕ) (cs : List Cycle) (r : Refusal) → HasDump s (cutAfter n cs r)
       → ((3 ≤ numberOf r) × (numberOf r ≤ 8)) ⊎ ((13 ≤ numberOf r) × (numberOf r ≤ 14))
 
--- "A refusal is the last line, `refused`, line, number, after what was already written"
+-- a refusal is the last line, after what was already written
 abbrev pub dumpOn : Form Cycle → List ℕ
 dumpOn (noHeader r) = refusedLine 1 r
 dumpOn (cutAfter n cs r) = dump n cs ++ refusedLine (length cs + 2) r
@@ -74,7 +74,7 @@ dumpOn (whole n cs) = dump n cs
 abbrev pub DumpsAnyTrace : Type 0
 DumpsAnyTrace = (s : List ℕ) (f : Form Cycle) → Has traces s f → dumpProgram s ≡ dumpOn f
 
--- "for a dump the physical line of its `#`": the one after all lines of the dump so far
+-- the line of a refused step is that of its `#`: the one after all lines of the dump so far
 abbrev pub traceOn : Form Cycle → List ℕ
 traceOn (noHeader r) = refusedLine 1 r
 traceOn (cutAfter n cs r) = traceFile n cs ++ refusedLine (suc (linesIn (dump n cs))) r
@@ -83,11 +83,11 @@ traceOn (whole n cs) = traceFile n cs
 abbrev pub TracesAnyDump : Type 0
 TracesAnyDump = (s : List ℕ) (f : Form Cycle) → HasDump s f → undumpProgram s ≡ traceOn f
 
--- "the dump of a judged trace reads back as its cycles": a trace that is judged to its end is a whole one
+-- the dump of a judged trace reads back as its cycles: a trace that is judged to its end is a whole one
 abbrev pub DumpReadsBack : Type 0
 DumpReadsBack = (s : List ℕ) (n : ℕ) (cs : List Cycle) → Has traces s (whole n cs) → readDump (dumpProgram s) ≡ complete n cs
 
--- "a dump that is read and written again has the same bytes": reading comes to the end of whole dumps, and of no others
+-- a dump that is read and written again has the same bytes: reading comes to the end of whole dumps, and of no others
 pub record WholeDumpsAreRead : Type 0 where
   pub read : (s : List ℕ) (n : ℕ) (cs : List Cycle) → HasDump s (whole n cs) → readDump s ≡ complete n cs
   pub written : (s : List ℕ) (n : ℕ) (cs : List Cycle) → readDump s ≡ complete n cs → HasDump s (whole n cs) × (dump n cs ≡ s)
@@ -97,7 +97,7 @@ pub record RefusedDumpsAreTold : Type 0 where
   pub header : (s : List ℕ) (r : Refusal) → HasDump s (noHeader r) → readDump s ≡ refusedAt 1 r
   pub step : (s : List ℕ) (n : ℕ) (cs : List Cycle) (r : Refusal) → HasDump s (cutAfter n cs r) → readDump s ≡ refusedAt (suc (linesIn (dump n cs))) r
 
--- "the two programs composed are the identity on traces, and on dumps"
+-- the two programs one after the other give back every trace, and every dump
 pub record EachUndoesTheOther : Type 0 where
   pub on-traces : (s : List ℕ) (n : ℕ) (cs : List Cycle) → Has traces s (whole n cs) → undumpProgram (dumpProgram s) ≡ s
   pub on-dumps : (s : List ℕ) (n : ℕ) (cs : List Cycle) → HasDump s (whole n cs) → dumpProgram (undumpProgram s) ≡ s

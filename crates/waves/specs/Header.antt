@@ -1,4 +1,4 @@
--- The header of a dump, whole. "Reading a header: 12 (not ours; also the empty input) in the place of 2, then 1. Writing: 1, 9."
+-- The header of a dump, whole. Reading it: 12, also for the empty input, in the place of 2; then 1. Writing it: 1, 9.
 --
 --   dumpHeader n       == the bytes of the header
 --   begins s t         == s begins with t

@@ -20,11 +20,11 @@ use Rattle.waves.specs.Steps.{hash, dumpStep, writeStepOf, stepWritten}
 use Rattle.waves.specs.Reading.{readStepOf}
 use Rattle.waves.specs.Files.{dump, readDump}
 
--- "up to the next line that begins with `#` or the end of the input"
+-- a step goes on up to the next line that begins with `#`, or the end of the input
 abbrev pub Ends : List ℕ → Type 0
 Ends s = (s ≡ []) ⊎ (getD s 0 0 ≡ hash)
 
--- "A longest good step has 104 bytes"
+-- a longest good step has 104 bytes
 abbrev pub StepsAreShort : Type 0
 StepsAreShort = (prev : Cycle) (t : ℕ) (c : Cycle) → t < mostCycles → length (dumpStep prev t c) ≤ 104
 

@@ -1,4 +1,4 @@
--- A step of a dump as it is read. "Reading a step: 1, 13, 8, 14, 3, 4, 5, 6, 7." Each test is of the whole step.
+-- A step of a dump as it is read: 1, 13, 8, 14, 3, 4, 5, 6, 7. Each test is of the whole step.
 --
 --   stepText s         == the step that s begins with: up to the next line that begins with `#`, or the end of the input
 --   wrongTime t s      == 13: its time is another number than t
@@ -30,7 +30,7 @@ use Rattle.waves.specs.Variables.{Variable, variables, space, sizeOf}
 use Rattle.waves.specs.Header.{begins}
 use Rattle.waves.specs.Steps.{hash, timeLine}
 
--- "A longest good step has 104 bytes": of a longer one the first 105 are looked at, and no good step has as many
+-- a longest good step has 104 bytes: of a longer one the first 105 are looked at, and no good step has as many
 abbrev pub mostBytes : ℕ
 mostBytes = 105
 
@@ -54,11 +54,11 @@ hasTime s =
 unfoldable pub timeIs : ℕ → List ℕ → Bool
 timeIs t s = begins s (hash ∷ decimal t) && not (isDecimal (getD s (1 + length (decimal t)) 0))
 
--- "another wrong number is 13"
+-- 13: another number than the next
 unfoldable pub wrongTime : ℕ → List ℕ → Bool
 wrongTime t s = hasTime s && not (timeIs t s)
 
--- "`#1000000` after a million steps is 8 whatever follows it"
+-- 8: `#1000000` after a million steps, whatever follows it
 unfoldable pub fullTime : ℕ → List ℕ → Bool
 fullTime t s = leb mostCycles t && timeIs t s
 
@@ -84,7 +84,7 @@ unfoldable pub codeIn : List ℕ → List ℕ
 codeIn [] = []
 codeIn (b ∷ s) = cond (isScalar b) s (cond (isVector b) (afterSpace s) [])
 
--- "14: a code that is none of the eleven", which are one character each, '!' to '+'
+-- 14: a code that is none of the eleven, which are one character each, '!' to '+'
 unfoldable pub unknownCode : List ℕ → Bool
 unknownCode s = isPrinted (getD s 0 0) && not (leb (getD s 0 0) 43 && not (isPrinted (getD s 1 0)))
 
@@ -126,7 +126,7 @@ bitsIn w s = cond (areBits w s) (binary 0 w s) (2 ^ w)
 unfoldable pub valueIn : Variable → List ℕ → ℕ
 valueIn x s = bitsIn (x .width) (cond (eqb (x .width) 1) s (drop 1 s))
 
--- "3: a repeated value, out of order or twice, missing in cycle 0, a wrong width or kind, a line of no shape, a missing LF"
+-- 3: a repeated value, out of order or twice, missing in cycle 0, a wrong width or kind, a line of no shape, a missing LF
 unfoldable pub shaped : Bool → List Variable → List ℕ → List ℕ → Bool
 shaped all [] vs s = eqb (length s) 0
 shaped all (x ∷ xs) [] s = false
@@ -156,7 +156,7 @@ changesIn t s = drop (length (timeLine t)) s
 unfoldable pub stepShaped : ℕ → Cycle → List ℕ → Bool
 stepShaped t prev s = begins s (timeLine t) && shaped (eqb t 0) variables (cycleValues prev) (changesIn t s)
 
--- "5, 6, 7: of the cycle that results"
+-- 4, 5, 6 and 7 are of the cycle that results
 unfoldable pub stepCycle : ℕ → Cycle → List ℕ → Cycle
 stepCycle t prev s = cycleOf (valuesIn variables (cycleValues prev) (changesIn t s))
 

@@ -1,5 +1,5 @@
 -- Each refusal of the readers and writers of a dump by its number, each order of tests, and the neighbours that are taken, as one table.
--- n = 3, and step 4 after the cycle `second`, unless said; a good step there is "#4\nb11 $\n", in which HTRANS moves from 2 to 3.
+-- n = 3, and step 4 after the cycle `second`, unless said; a good step there has the lines `#4` and `b11 $`, in which HTRANS moves from 2 to 3.
 --
 --   Call               == a reader of a text, or a writer into a buffer of a length
 --   heard c            == the number that the definitions answer

@@ -1,5 +1,5 @@
 -- A step of a dump as it is written: the time, and the values that differ from the cycle before.
--- "Writing: 1, 8, 4, 5, 6, 7, 9."
+-- Its tests: 1, 8, 4, 5, 6, 7, 9.
 --
 --   timeLine t         == the line of the time t
 --   changes all xs vs us == the lines of the variables xs whose value was v and is u: of all, or of those that changed

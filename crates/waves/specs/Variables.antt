@@ -32,7 +32,7 @@ abbrev pub bits : ℕ → ℕ → List ℕ
 bits zero v = []
 bits (suc w) v = (48 + v / 2 ^ w % 2) ∷ bits w v
 
--- "`0!` or `1!` style for one bit, `b`, every bit, one space, code for the others": 'b' is 98
+-- `0!` or `1!` for one bit; `b`, every bit, one space and the code for the others. 'b' is 98
 unfoldable pub change : Variable → ℕ → List ℕ
 change x v =
     cond (eqb (x .width) 1)
