@@ -20,15 +20,14 @@ const CYCLES: usize = 3000;
 
 fn main() -> ExitCode {
     let words: Vec<String> = std::env::args().skip(1).collect();
-    let [arbiter, judge] = &words[..] else {
-        eprintln!("usage: live ARBITER JUDGE");
+    if words.len() != 4 {
+        eprintln!("usage: live ARBITER JUDGE TRACE2VCD VCD2TRACE");
         return ExitCode::from(2);
-    };
+    }
     let mut faults = 0;
     let scripts = scripts();
     for (what, script) in &scripts {
-        let command = if script.program == Program::Arbiter { arbiter } else { judge };
-        match talk::hold(command, script) {
+        match talk::hold(&words[script.program as usize], script) {
             Ok(times) => println!("live: {what}: {}", told(times)),
             Err(fault) => {
                 println!("live: {what}: {fault}");
@@ -53,19 +52,33 @@ fn told(mut times: Vec<u128>) -> String {
 fn scripts() -> Vec<(&'static str, Script)> {
     let stimulus = drawn_stimulus();
     let trace = reference::arbiter::program(&stimulus);
-    let (busy, rough) = (Script::arbiter(&stimulus), Script::judge(&trace));
+    let dump = reference::dumps::program(&trace);
+    let (busy, rough) = (Script::of(Program::Arbiter, &stimulus), Script::of(Program::Judge, &trace));
+    let (drawn, recalled) = (Script::of(Program::Trace2vcd, &trace), Script::of(Program::Vcd2trace, &dump));
     // after two breaches a line with HTRANS 1
     let refused = [&read("hgrant.trace")[..], b"0000\t0000\t1\t1\t0\t0001\t0\t0\t1\t0\t0\n"].concat();
+    // the time of cycle 5 is 6, and another step follows
+    let late = String::from_utf8(read("three.vcd")).expect("dumps are text").replace("#5\n", "#6\n").into_bytes();
     vec![
         ("document 01's stimulus", stored(Program::Arbiter, "three.stim", "three.trace")),
         ("a refused stimulus", stored(Program::Arbiter, "arb_r5_later_refused.stim", "arb_r5_later_refused.trace")),
         ("document 01's trace", stored(Program::Judge, "three.trace", "three.report")),
         ("a trace with breaches", stored(Program::Judge, "hgrant.trace", "hgrant.report")),
-        ("a trace refused after a breach", Script::judge(&refused)),
+        ("a trace refused after a breach", Script::of(Program::Judge, &refused)),
+        ("document 01's trace as a dump", stored(Program::Trace2vcd, "three.trace", "three.vcd")),
+        ("a refused trace as a dump", Script::of(Program::Trace2vcd, &refused)),
+        ("document 01's dump", stored(Program::Vcd2trace, "three.vcd", "three.trace")),
+        ("a dump that is a header", stored(Program::Vcd2trace, "header_only.vcd", "header_only.trace")),
+        ("a dump whose last step is refused", stored(Program::Vcd2trace, "vcd_r14_variable_refused.vcd", "vcd_r14_variable_refused.trace")),
+        ("a dump refused before its last step", Script::of(Program::Vcd2trace, &late)),
         ("a stimulus line by line", busy.clone()),
         ("a trace line by line", rough.clone()),
         ("a stimulus in pieces", busy.cut(&mut Rng::new(1, 0, 0))),
         ("a trace in pieces", rough.cut(&mut Rng::new(1, 1, 0))),
+        ("a dump written line by line", drawn.clone()),
+        ("a dump written in pieces", drawn.cut(&mut Rng::new(1, 3, 0))),
+        ("a dump read step by step", recalled.clone()),
+        ("a dump read in pieces", recalled.cut(&mut Rng::new(1, 4, 0))),
     ]
 }
 

@@ -7,7 +7,12 @@ use crate::rng::Rng;
 pub enum Program {
     Arbiter,
     Judge,
+    Trace2vcd,
+    Vcd2trace,
 }
+
+/// The lines of a dump's header.
+const HEADER_LINES: usize = 16;
 
 #[derive(Clone)]
 pub struct Script {
@@ -20,39 +25,46 @@ pub struct Script {
 }
 
 impl Script {
-    pub fn arbiter(stimulus: &[u8]) -> Script {
-        Script::new(Program::Arbiter, stimulus, &reference::arbiter::program(stimulus))
+    /// A script whose answers are those of the reference.
+    pub fn of(program: Program, input: &[u8]) -> Script {
+        let answer = match program {
+            Program::Arbiter => reference::arbiter::program,
+            Program::Judge => reference::judge::program,
+            Program::Trace2vcd => reference::dumps::program,
+            Program::Vcd2trace => reference::steps::program,
+        };
+        Script::new(program, input, &answer(input))
     }
 
-    pub fn judge(trace: &[u8]) -> Script {
-        Script::new(Program::Judge, trace, &reference::judge::program(trace))
-    }
-
-    /// Line by line, from the whole input and the whole answer.
+    /// Line by line, or step by step, from the whole input and the whole answer.
     pub fn new(program: Program, input: &[u8], answer: &[u8]) -> Script {
-        let mut answers: Vec<&[u8]> = answer.split_inclusive(|&byte| byte == b'\n').collect();
-        let refused = answers.last().is_some_and(|line| line.starts_with(b"refused"));
-        let breached = answers.iter().any(|line| line[0].is_ascii_digit());
-        let end = (program == Program::Judge && !refused).then(|| answers.pop().expect("a report has a last line"));
+        let mut answers = answer_parts(program, answer);
+        let refused = answers.last().is_some_and(|part| part.starts_with(b"refused"));
+        let breached = program == Program::Judge && answers.iter().any(|line| line[0].is_ascii_digit());
+        let parts = input_parts(program, input);
+        // the judge has a last line, and a dump's last step ends with the input
+        let late = match program {
+            Program::Judge => !refused,
+            Program::Vcd2trace => answers.len() == parts.len() && parts.len() > 1,
+            _ => false,
+        };
+        let end = late.then(|| answers.pop().expect("there is a last part"));
         let mut left = answers.into_iter().enumerate().peekable();
         let mut pieces = Vec::new();
-        for (number, line) in input.split_inclusive(|&byte| byte == b'\n').enumerate() {
+        for (number, part) in parts.into_iter().enumerate() {
             let mut reply = Vec::new();
-            while let Some((_, next)) = left.next_if(|&(place, next)| answers_line(program, place, next, number)) {
-                reply.extend_from_slice(next);
+            while let Some((_, next)) = left.next_if(|(place, next)| answers_part(program, *place, next, number)) {
+                reply.extend(next);
             }
-            pieces.push((line.to_vec(), reply));
+            pieces.push((part, reply));
             // nothing is read after a refusal
-            if refused && left.peek().is_none() {
+            if refused && !late && left.peek().is_none() {
                 break;
             }
         }
-        let status = match (refused, program, breached) {
-            (true, ..) => 2,
-            (false, Program::Judge, true) => 1,
-            _ => 0,
-        };
-        Script { program, pieces, end: (!refused).then(|| end.unwrap_or_default().to_vec()), status }
+        let status = if refused { 2 } else { i32::from(breached) };
+        let open = !refused || late;
+        Script { program, pieces, end: open.then(|| end.unwrap_or_default()), status }
     }
 
     /// The same bytes in pieces of 1 to 70: lines cut anywhere, and several at once.
@@ -76,10 +88,43 @@ impl Script {
     }
 }
 
-/// Whether the answer's line at a place belongs to the input's line of that number, both counted from 0. A trace has a line for
+fn lines(text: &[u8]) -> Vec<Vec<u8>> {
+    text.split_inclusive(|&byte| byte == b'\n').map(<[u8]>::to_vec).collect()
+}
+
+/// A dump's header and its steps, with a refusal line by itself.
+fn steps(text: &[u8]) -> Vec<Vec<u8>> {
+    let mut parts: Vec<Vec<u8>> = Vec::new();
+    for (number, line) in lines(text).into_iter().enumerate() {
+        match parts.last_mut() {
+            Some(part) if number != HEADER_LINES && line[0] != b'#' && !line.starts_with(b"refused") => part.extend(line),
+            _ => parts.push(line),
+        }
+    }
+    parts
+}
+
+/// What is written at a time: a line; of a dump its header, and then each step up to the `#` of the next one, which ends it.
+fn input_parts(program: Program, input: &[u8]) -> Vec<Vec<u8>> {
+    if program != Program::Vcd2trace {
+        return lines(input);
+    }
+    let mut parts = steps(input);
+    for number in 1..parts.len().saturating_sub(1) {
+        let hash = parts[number + 1].remove(0);
+        parts[number].push(hash);
+    }
+    parts
+}
+
+fn answer_parts(program: Program, answer: &[u8]) -> Vec<Vec<u8>> {
+    if program == Program::Trace2vcd { steps(answer) } else { lines(answer) }
+}
+
+/// Whether the answer's part at a place belongs to the input's part of that number, both counted from 0. A trace and a dump have one for
 /// each; in a report a breach line begins with its cycle, and a refusal has its line, counted from 1.
-fn answers_line(program: Program, place: usize, answer: &[u8], number: usize) -> bool {
-    if program == Program::Arbiter {
+fn answers_part(program: Program, place: usize, answer: &[u8], number: usize) -> bool {
+    if program != Program::Judge {
         return place == number;
     }
     let text = std::str::from_utf8(answer).expect("answers are text");
