@@ -4,6 +4,7 @@ mod codes;
 mod put;
 mod table;
 
+pub use codes::flags_text;
 pub use put::put_outputs;
 pub use put::put_trace;
 use rules::Cycle;

@@ -2,3 +2,4 @@
 pub mod Sides
 pub mod Texts
 pub mod Words
+pub mod Outputs

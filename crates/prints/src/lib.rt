@@ -1,6 +1,7 @@
 // The trace line of a cycle, written by words of eight bytes.
 use rules::Cycle;
 use rules::Inputs;
+use rules::Outputs;
 ghost use mathlib.Core.Path.{_≡_};
 ghost use mathlib.Core.List.{[], _∷_, _++_};
 ghost use Prim.Native.Nat.{_+_, _/_, _%_, _^_, _≤_, _<_};
@@ -10,7 +11,8 @@ ghost use Rattle.words.specs.Words.{lowFirst, numberLow};
 ghost use Rattle.formats.specs.Digits.{tab, hex};
 ghost use Rattle.formats.specs.Lines.{traceLine};
 ghost use Rattle.glances.specs.Glances.{codesBytes, Driven};
-ghost use Rattle.prints.specs.Prints.{digitsLow, lettersOf, backwards, inputsBytes, Fits};
+ghost use Rattle.glances.specs.Puts.{outputsBytes};
+ghost use Rattle.prints.specs.Prints.{digitsLow, lettersOf, backwards, inputsBytes, grantBytes, Fits, FitsOut};
 
 // Two masks as one number, with a byte of room after each of their bytes.
 fn bytes_apart(a: u64, b: u64) -> u64
@@ -108,4 +110,42 @@ pub fn put_line(g: u32, c: Cycle, line: &mut [u8])
     let o = c.outputs;
     put_inputs(x, line);
     glances::put_outputs(g, o, &mut line[15..]);
+}
+
+// HGRANT and HMASTER, with the tabs round them.
+fn grant_text(hgrant: u32, hmaster: u32) -> u64
+    requires { ⌜ (hgrant < 65536) × (hmaster < 16) ⌝ }
+    ensures { λ r. ⌜ r ≡ numberLow 8 (grantBytes hgrant hmaster) 0 ⌝ }
+{
+    let masks = masks_text(hgrant, hmaster);
+    0x900090000000009
+        + masks.requests as u64 * 0x100
+        + (masks.locks / 0x1000000) as u64 * 0x1000000000000
+}
+
+// Writes the columns of the outputs, from the tab before them on.
+fn put_outputs(o: Outputs, out: &mut [u8])
+    requires { ⌜ (16 ≤ length (now out)) × FitsOut o ⌝ }
+    ensures { λ _. ⌜ now (out .exit) ≡ sets (now (out .entry)) 0 (outputsBytes o) ⌝ }
+{
+    let grant = grant_text(o.hgrant, o.hmaster);
+    let flags = glances::flags_text(
+        o.hmastlock as u64,
+        o.decide as u64,
+        o.granted as u64,
+        o.busreq as u64,
+    );
+    words::put_eight(grant, out);
+    words::put_eight(flags, &mut out[8..]);
+}
+
+// Writes the trace line of the cycle c, whatever its HGRANT is.
+pub fn put_cycle(c: Cycle, line: &mut [u8])
+    requires { ⌜ (31 ≤ length (now line)) × Fits (c .inputs) × FitsOut (c .outputs) ⌝ }
+    ensures { λ _. ⌜ now (line .exit) ≡ sets (now (line .entry)) 0 (traceLine c) ⌝ }
+{
+    let x = c.inputs;
+    let o = c.outputs;
+    put_inputs(x, line);
+    put_outputs(o, &mut line[15..]);
 }
