@@ -2,16 +2,17 @@
 --
 --   put-none           == a variable that did not change has no line
 --   put-line           == the line of one that did
---   mask-stores        == the stores of a line of sixteen bits
+--   line-stores, line-end, line-short == the stores of a line of several bits, where it ends, and how long it is
 --   put-then           == a second run of bytes where the first ends
 --   put-last           == and nothing after it
 --   put-start          == bytes that are put at the start of a buffer, and what stands after them
-use Prim.Native.Nat.{ℕ, suc, _+_, _≤_}
+use Prim.Native.Nat.{ℕ, _+_, _≤_}
 use mathlib.Core.Path.{_≡_, refl, sym, _∙_}
 use mathlib.Core.Bool.{Bool, true, false, not, _||_}
 use mathlib.Core.List.{List, [], _∷_, _++_, append-assoc, append-nil}
 use native.Mathlib.Omega.{arith}
 use native.Mathlib.Nat.{add-zero, zero-add, add-comm}
+use native.Mathlib.Numerals.{towards-suc}
 use lib.Dec.{eqb}
 use lib.ListN.{length, drop, set, length-append}
 use lib.Seq.{sets, sets-eq}
@@ -24,22 +25,23 @@ module _ (b : List ℕ) (at : ℕ) (all : Bool) (x : Variable) (v u k : ℕ) whe
   unfolding changed
   put-none e = rw e (record { after = sym (add-zero at); within = omega arith; bytes = refl })
 
-  pub put-line : (c s : List ℕ) → (all || not (eqb u v)) ≡ true → change x u ≡ s → length s ≡ k → c ≡ sets b at s
-      → Put b at (changed all x v u) k (at + k) c
+  pub put-line : (c s : List ℕ) (r : ℕ) → (all || not (eqb u v)) ≡ true → change x u ≡ s → r ≡ at + length s → length s ≤ k → c ≡ sets b at s
+      → Put b at (changed all x v u) k r c
   unfolding changed
-  put-line c s e same n w = rw (e, same) (record { after = rw n; within = omega arith; bytes = w })
+  put-line c s r e same n few w = rw (e, same) (record { after = n; within = omega arith; bytes = w })
 
--- hs and ls are the two bytes of the mask
-pub mask-stores : (b c d hs ls : List ℕ) (at k : ℕ) → length hs ≡ 8 → length ls ≡ 8 → c ≡ sets b (at + 1) hs → d ≡ sets c (at + 9) ls
-    → set (set (set (set d at 98) (at + 17) 32) (at + 18) k) (at + 19) 10 ≡ sets b at (98 ∷ (hs ++ (ls ++ (32 ∷ k ∷ 10 ∷ []))))
-mask-stores b c d hs ls at k nh nl e f =
-    let both : d ≡ sets b (at + 1) (hs ++ ls) = then-sets b c d (at + 1) (at + 9) hs ls e (omega arith) f in
-    let first : set d at 98 ≡ sets b at (98 ∷ (hs ++ ls)) = set-first b d at 98 (hs ++ ls) both in
-    let next : at + 18 ≡ suc (at + 17) = omega arith in
-    let last : at + 19 ≡ suc (suc (at + 17)) = omega arith in
-    simp append-assoc at
-    (then-sets b (set d at 98) (set (set (set (set d at 98) (at + 17) 32) (at + 18) k) (at + 19) 10) at (at + 17) (98 ∷ (hs ++ ls)) (32 ∷ k ∷ 10 ∷ []) first
-    (omega (arith, length-append hs ls)) (rw (next, last)))
+-- bs is the text of the bits
+pub line-stores : (b c bs : List ℕ) (at end k : ℕ) → c ≡ sets b (at + 1) bs → end ≡ at + length bs + 1
+    → set (set (set (set c at 98) end 32) (end + 1) k) (end + 2) 10 ≡ sets b at (98 ∷ (bs ++ (32 ∷ k ∷ 10 ∷ [])))
+line-stores b c bs at end k e n =
+    then-sets b (set c at 98) (set (set (set (set c at 98) end 32) (end + 1) k) (end + 2) 10) at end (98 ∷ bs) (32 ∷ k ∷ 10 ∷ [])
+    (set-first b c at 98 bs e) (omega arith) (simp towards-suc)
+
+pub line-end : (bs : List ℕ) (at end k : ℕ) → end ≡ at + length bs + 1 → end + 3 ≡ at + length (98 ∷ (bs ++ (32 ∷ k ∷ 10 ∷ [])))
+line-end bs at end k n = simp length-append (omega arith)
+
+pub line-short : (bs : List ℕ) (w k : ℕ) → length bs ≡ w → length (98 ∷ (bs ++ (32 ∷ k ∷ 10 ∷ []))) ≤ w + 4
+line-short bs w k n = simp length-append (omega arith)
 
 module _ (b : List ℕ) (at : ℕ) (s : List ℕ) (k : ℕ) where
   pub put-then : (p : ℕ) (c t : List ℕ) (j r : ℕ) (d : List ℕ) → Put b at s k p c → Put c p t j r d → Put b at (s ++ t) (k + j) r d

@@ -2,13 +2,19 @@
 --
 --   spread-bits        == eight bits spread over the bytes of a number
 --   spread-fits        == that number has 64 bits
---   one-line, two-line, three-line, four-line, mask-line == the line of a variable of so many bits, byte by byte
-use Prim.Native.Nat.{ℕ, _+_, _*_, _/_, _%_, _^_, _≤_, _<_}
-use mathlib.Core.Path.{_≡_, refl}
-use mathlib.Core.List.{[], _∷_, _++_}
+--   bits-length        == w bits are w characters
+--   bits-more, bits-none == bits that are written one by one: the first and the rest, and none
+--   one-line, few-line, mask-line == the line of a variable of so many bits, byte by byte
+use Prim.Native.Nat.{ℕ, zero, suc, _+_, _-_, _*_, _/_, _%_, _^_, _≤_, _<_}
+use mathlib.Core.Path.{_≡_, refl, ap}
+use mathlib.Core.List.{List, [], _∷_, _++_}
 use native.Mathlib.Omega.{arith}
 use native.Mathlib.Nat.{div-one}
+use native.Mathlib.Numerals.{add-one}
+use borrow.Author.Tests.{ne-eqb}
 use lib.Bits.{bitAnd, and-le-r}
+use lib.ListN.{length, set}
+use lib.Seq.{sets}
 use Rattle.words.specs.Words.{lowFirst}
 use Rattle.words.proofs.Tables.{same-below}
 use Rattle.waves.specs.Variables.{bits, change}
@@ -35,17 +41,22 @@ module _ (k u : ℕ) where
   unfolding change
   one-line = rw div-one
 
-  pub two-line : change (variable 2 k) u ≡ 98 ∷ (48 + u / 2 % 2) ∷ (48 + u % 2) ∷ 32 ∷ k ∷ 10 ∷ []
+  pub few-line : (w : ℕ) → 2 ≤ w → change (variable w k) u ≡ 98 ∷ (bits w u ++ (32 ∷ k ∷ 10 ∷ []))
   unfolding change
-  two-line = rw div-one
+  few-line w h = rw (ne-eqb w 1 (λ e. omega arith))
 
-  pub three-line : change (variable 3 k) u ≡ 98 ∷ (48 + u / 4 % 2) ∷ (48 + u / 2 % 2) ∷ (48 + u % 2) ∷ 32 ∷ k ∷ 10 ∷ []
-  unfolding change
-  three-line = rw div-one
+pub bits-length : (w v : ℕ) → length (bits w v) ≡ w
+bits-length zero v = refl
+bits-length (suc w) v = ap suc (bits-length w v)
 
-  pub four-line : change (variable 4 k) u ≡ 98 ∷ (48 + u / 8 % 2) ∷ (48 + u / 4 % 2) ∷ (48 + u / 2 % 2) ∷ (48 + u % 2) ∷ 32 ∷ k ∷ 10 ∷ []
-  unfolding change
-  four-line = rw div-one
+-- one bit, and then the rest
+pub bits-more : (b : List ℕ) (i p v : ℕ) → 0 < i → sets (set b p (48 + v / 2 ^ (i - 1) % 2)) (p + 1) (bits (i - 1) v) ≡ sets b p (bits i v)
+bits-more b zero p v h = absurd (omega arith)
+bits-more b (suc i) p v h = let e : suc i - 1 ≡ i = omega arith in rw (e, add-one)
+
+pub bits-none : (b : List ℕ) (i p v : ℕ) → i ≤ 0 → sets b p (bits i v) ≡ b
+bits-none b zero p v h = refl
+bits-none b (suc i) p v h = absurd (omega arith)
 
 -- a bit of a mask is a bit of one of its bytes
 record Bits (u : ℕ) : Type 0 where
@@ -87,7 +98,7 @@ bits-of u =
       l0 = omega arith;
     }
 
-pub mask-line : (k u : ℕ) → change (variable 16 k) u ≡ 98 ∷ (bits 8 (u / 256 % 256) ++ (bits 8 (u % 256) ++ (32 ∷ k ∷ 10 ∷ [])))
+pub mask-line : (k u : ℕ) → change (variable 16 k) u ≡ 98 ∷ ((bits 8 (u / 256 % 256) ++ bits 8 (u % 256)) ++ (32 ∷ k ∷ 10 ∷ []))
 unfolding change
 mask-line k u =
     let b = bits-of u in

@@ -37,11 +37,12 @@ fn put_mask(all: bool, code: u8, v: u32, u: u32, buf: &mut [u8], at: usize) -> u
     if all | (u != v) {
         put_byte(u / 256 % 256, buf, at + 1);
         put_byte(u % 256, buf, at + 9);
+        let end = at + 17;
         buf[at] = 98;
-        buf[at + 17] = 32;
-        buf[at + 18] = code;
-        buf[at + 19] = 10;
-        at + 20
+        buf[end] = 32;
+        buf[end + 1] = code;
+        buf[end + 2] = 10;
+        end + 3
     } else {
         at
     }
@@ -62,58 +63,33 @@ fn put_one(all: bool, code: u8, v: u32, u: u32, buf: &mut [u8], at: usize) -> us
     }
 }
 
-// The same of two bits.
-fn put_two(all: bool, code: u8, v: u32, u: u32, buf: &mut [u8], at: usize) -> usize
-    requires { ⌜ at + 6 ≤ length (now buf) ⌝ }
-    ensures { λ r. ⌜ Put (now (buf .entry)) at (changed all (variable 2 code) v u) 6 r (now (buf .exit)) ⌝ }
+// Writes the low bits of a number, the highest first.
+fn put_bits(width: usize, v: u32, buf: &mut [u8], at: usize)
+    requires { ⌜ (width ≤ 4) × (at + width ≤ length (now buf)) ⌝ }
+    ensures { λ _. ⌜ now (buf .exit) ≡ sets (now (buf .entry)) at (bits width v) ⌝ }
 {
-    if all | (u != v) {
-        buf[at] = 98;
-        buf[at + 1] = 48 + (u / 2 % 2) as u8;
-        buf[at + 2] = 48 + (u % 2) as u8;
-        buf[at + 3] = 32;
-        buf[at + 4] = code;
-        buf[at + 5] = 10;
-        at + 6
-    } else {
-        at
+    let mut i = width;
+    let mut p = at;
+    while 0 < i {
+        i -= 1;
+        buf[p] = 48 + ((v >> i) % 2) as u8;
+        p += 1;
     }
 }
 
-// The same of three bits.
-fn put_three(all: bool, code: u8, v: u32, u: u32, buf: &mut [u8], at: usize) -> usize
-    requires { ⌜ at + 7 ≤ length (now buf) ⌝ }
-    ensures { λ r. ⌜ Put (now (buf .entry)) at (changed all (variable 3 code) v u) 7 r (now (buf .exit)) ⌝ }
+// The same of two to four bits.
+fn put_few(width: usize, all: bool, code: u8, v: u32, u: u32, buf: &mut [u8], at: usize) -> usize
+    requires { ⌜ (2 ≤ width) × (width ≤ 4) × (at + width + 4 ≤ length (now buf)) ⌝ }
+    ensures { λ r. ⌜ Put (now (buf .entry)) at (changed all (variable width code) v u) (width + 4) r (now (buf .exit)) ⌝ }
 {
     if all | (u != v) {
+        put_bits(width, u, buf, at + 1);
+        let end = at + width + 1;
         buf[at] = 98;
-        buf[at + 1] = 48 + (u / 4 % 2) as u8;
-        buf[at + 2] = 48 + (u / 2 % 2) as u8;
-        buf[at + 3] = 48 + (u % 2) as u8;
-        buf[at + 4] = 32;
-        buf[at + 5] = code;
-        buf[at + 6] = 10;
-        at + 7
-    } else {
-        at
-    }
-}
-
-// The same of four bits.
-fn put_four(all: bool, code: u8, v: u32, u: u32, buf: &mut [u8], at: usize) -> usize
-    requires { ⌜ at + 8 ≤ length (now buf) ⌝ }
-    ensures { λ r. ⌜ Put (now (buf .entry)) at (changed all (variable 4 code) v u) 8 r (now (buf .exit)) ⌝ }
-{
-    if all | (u != v) {
-        buf[at] = 98;
-        buf[at + 1] = 48 + (u / 8 % 2) as u8;
-        buf[at + 2] = 48 + (u / 4 % 2) as u8;
-        buf[at + 3] = 48 + (u / 2 % 2) as u8;
-        buf[at + 4] = 48 + (u % 2) as u8;
-        buf[at + 5] = 32;
-        buf[at + 6] = code;
-        buf[at + 7] = 10;
-        at + 8
+        buf[end] = 32;
+        buf[end + 1] = code;
+        buf[end + 2] = 10;
+        end + 3
     } else {
         at
     }
@@ -127,8 +103,8 @@ pub fn put_inputs(all: bool, p: Inputs, x: Inputs, buf: &mut [u8], at: usize) ->
     let a = put_mask(all, b'!', p.hbusreq, x.hbusreq, buf, at);
     let b = put_mask(all, b'"', p.hlock, x.hlock, buf, a);
     let c = put_one(all, b'#', p.hready, x.hready, buf, b);
-    let d = put_two(all, b'$', p.htrans, x.htrans, buf, c);
-    put_three(all, b'%', p.hburst, x.hburst, buf, d)
+    let d = put_few(2, all, b'$', p.htrans, x.htrans, buf, c);
+    put_few(3, all, b'%', p.hburst, x.hburst, buf, d)
 }
 
 // The lines of the outputs.
@@ -137,7 +113,7 @@ pub fn put_outputs(all: bool, q: Outputs, o: Outputs, buf: &mut [u8], at: usize)
     ensures { λ r. ⌜ Put (now (buf .entry)) at (changes all outputVariables (outputValues q) (outputValues o)) 40 r (now (buf .exit)) ⌝ }
 {
     let a = put_mask(all, b'&', q.hgrant, o.hgrant, buf, at);
-    let b = put_four(all, b'\'', q.hmaster, o.hmaster, buf, a);
+    let b = put_few(4, all, b'\'', q.hmaster, o.hmaster, buf, a);
     let c = put_one(all, b'(', q.hmastlock, o.hmastlock, buf, b);
     let d = put_one(all, b')', q.decide, o.decide, buf, c);
     let e = put_one(all, b'*', q.granted, o.granted, buf, d);

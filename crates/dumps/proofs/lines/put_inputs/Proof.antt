@@ -13,11 +13,11 @@ put-mask-requires-2 c κs = search needs
 put-one-requires : tie.Need-put-one-requires
 put-one-requires c κs = search needs
 
-put-two-requires : tie.Need-put-two-requires
-put-two-requires c κs = search needs
+put-few-requires : tie.Need-put-few-requires
+put-few-requires c κs = search needs
 
-put-three-requires : tie.Need-put-three-requires
-put-three-requires c κs = search needs
+put-few-requires-2 : tie.Need-put-few-requires-2
+put-few-requires-2 c κs = search needs
 
 same-length : tie.Need-same-length
 same-length c = search needs
@@ -25,7 +25,7 @@ same-length c = search needs
 returns : tie.Need-returns
 returns c = let h5 = c .before .before in let h4 = h5 .before .before .before .before in let h3 = h4 .before .before .before .before in
     let h2 = h3 .before .before .before .before in let h1 = h2 .before .before .before .before in let a = h1 .before .before .before .args in
-    inputs-put (a .all) (a .buf .now) _ _ _ _ _ (a .at) _ _ _ _ _ (a .p) (a .x) (h1 .put-mask .ensures) (h2 .put-mask2 .ensures) (h3 .put-one .ensures) (h4 .put-two .ensures) (h5 .put-three .ensures)
+    inputs-put (a .all) (a .buf .now) _ _ _ _ _ (a .at) _ _ _ _ _ (a .p) (a .x) (h1 .put-mask .ensures) (h2 .put-mask2 .ensures) (h3 .put-one .ensures) (h4 .put-few .ensures) (h5 .put-few2 .ensures)
 
 pub put-inputs-spec : {M : Type 1} → statement M
 put-inputs-spec =
@@ -34,7 +34,7 @@ put-inputs-spec =
     put-mask-requires
     put-mask-requires-2
     put-one-requires
-    put-two-requires
-    put-three-requires
+    put-few-requires
+    put-few-requires-2
     same-length
     returns)

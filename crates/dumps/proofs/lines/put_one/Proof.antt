@@ -39,7 +39,7 @@ same-length c = simp length-set
 
 returns : tie.Need-returns
 returns c = let a = c .before .args in
-    put-line (a .buf .now) (a .at) (a .all) (variable 1 (a .code)) (a .v) (a .u) 3 _ _ (c .if1 .taken) (one-line (a .code) (a .u)) refl (simp towards-suc)
+    put-line (a .buf .now) (a .at) (a .all) (variable 1 (a .code)) (a .v) (a .u) 3 _ _ _ (c .if1 .taken) (one-line (a .code) (a .u)) refl (omega arith) (simp towards-suc)
 
 returns-2 : tie.Need-returns-2
 returns-2 c = let a = c .before .args in put-none (a .buf .now) (a .at) (a .all) (variable 1 (a .code)) (a .v) (a .u) 3 (c .if1 .left)
