@@ -1,70 +1,48 @@
 -- A column of sixteen bits: its line has two times eight characters.
 --
---   octet-bits      == eight bits as characters, in one number
+--   copies-fit, characters-fit, characters-bits == eight bits as characters, in one number
+--   octet-fits, octet-read == characters that are those of a number
 --   mask-bits       == sixteen bits are eight and eight
 --   mask-seen       == the column that such a line changes
-use Prim.Native.Nat.{ℕ, zero, suc, _+_, _-_, _*_, _/_, _%_, _^_, _≤_, _<_}
+use Prim.Native.Nat.{ℕ, _+_, _-_, _*_, _/_, _%_, _^_, _≤_, _<_}
 use mathlib.Core.Path.{_≡_, refl, sym, ap, _∙_}
 use mathlib.Core.Bool.{Bool, true, false, not, _&&_, false≢true}
-use mathlib.Core.List.{List, [], _∷_, _++_, append-assoc}
+use mathlib.Core.List.{List, [], _∷_, _++_}
 use native.Mathlib.Omega.{arith}
-use native.Mathlib.Nat.{div-one}
 use borrow.Author.Tests.{eqb-true, eqb-false, not-true}
+use lib.Bits.{bitAnd, and-le-r}
 use lib.Dec.{eqb}
 use lib.ListN.{length, getD, take, drop}
-use lib.Seq.{drop-drop}
-use Rattle.rules.proofs.Choice.{and-left, and-right}
-use Rattle.words.specs.Words.{numberLow}
-use Rattle.words.proofs.Words.{Bytes, none-bytes, one-more, slots, slots-take}
+use Rattle.words.specs.Words.{lowFirst, numberLow}
+use Rattle.words.proofs.Words.{Bytes, slots-take, bytes-of-number}
+use Rattle.words.proofs.Tables.{same-below}
 use Rattle.waves.specs.Variables.{bits, change}
-use Rattle.waves.proofs.Bits.{bits-length}
 use Rattle.sights.specs.Sights.{variable, Passed}
-use Rattle.sights.proofs.Here.{word-at, part-here, line-here, changed}
+use Rattle.sights.proofs.Here.{word-at, part-here, changed}
 
--- the number in eight bits, a the highest
-abbrev valueOf : ℕ → ℕ → ℕ → ℕ → ℕ → ℕ → ℕ → ℕ → ℕ
-valueOf a b c d e f g h = a * 128 + b * 64 + c * 32 + d * 16 + e * 8 + f * 4 + g * 2 + h
-
-abbrev textOf : ℕ → ℕ → ℕ → ℕ → ℕ → ℕ → ℕ → ℕ → ℕ
-textOf a b c d e f g h =
-    0x3030303030303030
-    + a
-    + b * 0x100
-    + c * 0x10000
-    + d * 0x1000000
-    + e * 0x100000000
-    + f * 0x10000000000
-    + g * 0x1000000000000
-    + h * 0x100000000000000
-
--- a bit of a number, from what stands above it
-bit-next : (u d a b : ℕ) → u / d ≡ a * 2 + b → b ≤ 1 → u / d % 2 ≡ b
-bit-next u d a b e h = rw e (omega arith)
-
-octet-bits : (a b c d e f g h : ℕ) → a ≤ 1 → b ≤ 1 → c ≤ 1 → d ≤ 1 → e ≤ 1 → f ≤ 1 → g ≤ 1 → h ≤ 1
-    → textOf a b c d e f g h ≡ numberLow 8 (bits 8 (valueOf a b c d e f g h)) 0
-octet-bits a b c d e f g h ha hb hc hd he hf hg hh =
-    let u : ℕ = valueOf a b c d e f g h in
-    let ea : u / 128 % 2 ≡ a = bit-next u 128 0 a (omega arith) ha in
-    let eb : u / 64 % 2 ≡ b = bit-next u 64 a b (omega arith) hb in
-    let ec : u / 32 % 2 ≡ c = bit-next u 32 (a * 2 + b) c (omega arith) hc in
-    let ed : u / 16 % 2 ≡ d = bit-next u 16 (a * 4 + b * 2 + c) d (omega arith) hd in
-    let ee : u / 8 % 2 ≡ e = bit-next u 8 (a * 8 + b * 4 + c * 2 + d) e (omega arith) he in
-    let ef : u / 4 % 2 ≡ f = bit-next u 4 (a * 16 + b * 8 + c * 4 + d * 2 + e) f (omega arith) hf in
-    let eg : u / 2 % 2 ≡ g = bit-next u 2 (a * 32 + b * 16 + c * 8 + d * 4 + e * 2 + f) g (omega arith) hg in
-    let eh : u / 1 % 2 ≡ h = bit-next u 1 (a * 64 + b * 32 + c * 16 + d * 8 + e * 4 + f * 2 + g) h (omega arith) hh in
-    rw (ea, eb, ec, ed, ee, ef, eg, eh) (omega arith)
-
-pub octet-read : (w : ℕ)
-    → eqb w (textOf (w % 2) (w / 0x100 % 2) (w / 0x10000 % 2) (w / 0x1000000 % 2) (w / 0x100000000 % 2) (w / 0x10000000000 % 2) (w / 0x1000000000000 % 2) (w / 0x100000000000000 % 2)) ≡ true
-    → w ≡ numberLow 8 (bits 8 (valueOf (w % 2) (w / 0x100 % 2) (w / 0x10000 % 2) (w / 0x1000000 % 2) (w / 0x100000000 % 2) (w / 0x10000000000 % 2) (w / 0x1000000000000 % 2) (w / 0x100000000000000 % 2))) 0
-octet-read w t =
-    eqb-true _ _ t
-    ∙ octet-bits (w % 2) (w / 0x100 % 2) (w / 0x10000 % 2) (w / 0x1000000 % 2) (w / 0x100000000 % 2) (w / 0x10000000000 % 2) (w / 0x1000000000000 % 2) (w / 0x100000000000000 % 2)
-    (bit w) (bit (w / 0x100)) (bit (w / 0x10000)) (bit (w / 0x1000000)) (bit (w / 0x100000000)) (bit (w / 0x10000000000)) (bit (w / 0x1000000000000)) (bit (w / 0x100000000000000))
+-- the arithmetic of `characters`
+pub copies-fit : (b : ℕ) → b < 256 → b * 0x40201008040201 + b % 2 * 0x8000000000000000 < 2 ^ 64
+copies-fit b h = bounded (b % 2) (omega arith)
   where
-    bit : (x : ℕ) → x % 2 ≤ 1
-    bit x = omega arith
+    bounded : (y : ℕ) → y ≤ 1 → b * 0x40201008040201 + y * 0x8000000000000000 < 2 ^ 64
+    bounded y l = omega arith
+
+abbrev charactersOf : ℕ → ℕ
+charactersOf b =
+    bitAnd ((b * 0x40201008040201 + b % 2 * 0x8000000000000000) / 0x80) 0x101010101010101 + 0x3030303030303030
+
+pub characters-fit : (b : ℕ) → charactersOf b < 2 ^ 64
+characters-fit b = omega (arith, and-le-r ((b * 0x40201008040201 + b % 2 * 0x8000000000000000) / 0x80) 0x101010101010101)
+
+-- one computed row for each of the 256 bytes
+pub characters-bits : (b : ℕ) → b < 256 → lowFirst 8 (charactersOf b) ≡ bits 8 b
+characters-bits = same-below 256 (λ b. lowFirst 8 (charactersOf b)) (bits 8) refl
+
+pub octet-fits : (w : ℕ) → bitAnd w 0x101010101010101 / 0x100000000 * 0x8040201 < 2 ^ 64
+octet-fits w = omega (arith, and-le-r w 0x101010101010101)
+
+pub octet-read : (w b r : ℕ) → lowFirst 8 r ≡ bits 8 b → eqb r w ≡ true → lowFirst 8 w ≡ bits 8 b
+octet-read w b r e t = rw (← eqb-true r w t) e
 
 -- a bit of a mask is a bit of one of its halves
 same-bit : (u x d a : ℕ) → u / d ≡ a * 2 + x / d → u / d % 2 ≡ x / d % 2
@@ -91,13 +69,9 @@ mask-bits h l hh hl =
     let l0 : u / 1 % 2 ≡ l / 1 % 2 = same-bit u l 1 (h * 128) (omega arith) in
     rw (h7, h6, h5, h4, h3, h2, h1, h0, l7, l6, l5, l4, l3, l2, l1, l0)
 
-bits-bytes : (w v : ℕ) → Bytes (bits w v)
-bits-bytes zero v = none-bytes
-bits-bytes (suc w) v = one-more (omega arith) (bits-bytes w v)
-
 -- what a test of eight characters told
 abbrev Octet : ℕ → Bool → ℕ → Type 0
-Octet w good value = (value < 256) × (good ≡ true → w ≡ numberLow 8 (bits 8 value) 0)
+Octet w good value = (value < 256) × (good ≡ true → lowFirst 8 w ≡ bits 8 value)
 
 -- the five sides of the test
 record Sides (a b c d e f : Bool) : Type 0 where
@@ -121,18 +95,24 @@ module _ (k v : ℕ) (s : List ℕ) (q l : ℕ) (bytes : Bytes s) (code : getD s
     (g h : Bool) (high low : ℕ) (first : Octet w g high) (second : Octet x h low)
   where
     module _ (b : getD s q 0 ≡ 98) (space : getD s (q + 17) 0 ≡ 32) (lf : getD s (q + 19) 0 ≡ 10) (hg : g ≡ true) (hh : h ≡ true) where
+      octet-here : (p k b : ℕ) → p + 8 ≤ length s → k ≡ numberLow 8 (take (length s - p) (drop p s)) 0 → lowFirst 8 k ≡ bits 8 b
+          → drop p s ≡ bits 8 b ++ drop (p + 8) s
+      octet-here p k b inside ek same =
+          part-here s p 8 (bits 8 b)
+          (slots-take s 8 p inside ∙ sym (bytes-of-number 8 s p bytes) ∙ ap (lowFirst 8) (sym (word-at 8 p s) ∙ sym ek) ∙ same)
+
       opens : drop q s ≡ (98 ∷ []) ++ drop (q + 1) s
       opens = part-here s q 1 (98 ∷ []) (slots-take s 1 q (omega arith) ∙ rw b)
 
       highs : drop (q + 1) s ≡ bits 8 high ++ drop (q + 9) s
       highs =
           let e : q + 9 ≡ q + 1 + 8 = omega arith in
-          rw e (line-here s (q + 1) 8 (bits 8 high) bytes (bits-bytes 8 high) (bits-length 8 high) (omega arith) (sym (word-at 8 (q + 1) s) ∙ sym ew ∙ first .1 hg))
+          rw e (octet-here (q + 1) w high (omega arith) ew (first .1 hg))
 
       lows : drop (q + 9) s ≡ bits 8 low ++ drop (q + 17) s
       lows =
           let e : q + 17 ≡ q + 9 + 8 = omega arith in
-          rw e (line-here s (q + 9) 8 (bits 8 low) bytes (bits-bytes 8 low) (bits-length 8 low) (omega arith) (sym (word-at 8 (q + 9) s) ∙ sym ex ∙ second .1 hh))
+          rw e (octet-here (q + 9) x low (omega arith) ex (second .1 hh))
 
       closes : drop (q + 17) s ≡ (32 ∷ k ∷ 10 ∷ []) ++ drop (q + 20) s
       closes =

@@ -3,7 +3,7 @@ ghost use mathlib.Core.Path.{_≡_};
 ghost use mathlib.Core.Bool.{true};
 ghost use Prim.Native.Nat.{_+_, _≤_, _<_};
 ghost use lib.ListN.{length, getD};
-ghost use Rattle.words.specs.Words.{numberLow};
+ghost use Rattle.words.specs.Words.{lowFirst};
 ghost use Rattle.waves.specs.Variables.{bits};
 ghost use Rattle.sights.specs.Sights.{variable, Passed as Passes};
 
@@ -116,35 +116,33 @@ pub fn owner(v: u32, s: &[u8], q: usize, lines: u32) -> Passed
     }
 }
 
+// Eight bits as characters, in one number: seven copies of them, each nine places after the one before, have the high seven at the
+// bottoms of their bytes.
+fn characters(b: u64) -> u64
+    requires { ⌜ b < 256 ⌝ }
+    ensures { λ r. ⌜ lowFirst 8 r ≡ bits 8 b ⌝ }
+{
+    let copies = b * 0x40201008040201 + b % 2 * 0x8000000000000000;
+    (copies / 0x80 & 0x101010101010101) + 0x3030303030303030
+}
+
 // Eight characters as one number: whether they are bits, and the number in them.
 struct Octet {
     good: bool,
     value: u32,
 }
 
+// The number is a guess: it is right if its characters are these.
 fn octet_in(w: u64) -> Octet
-    ensures { λ r. ⌜ (r .value < 256) × (r .good ≡ true → w ≡ numberLow 8 (bits 8 (r .value)) 0) ⌝ }
+    ensures { λ r. ⌜ (r .value < 256) × (r .good ≡ true → lowFirst 8 w ≡ bits 8 (r .value)) ⌝ }
 {
-    let a = w % 2;
-    let b = w / 0x100 % 2;
-    let c = w / 0x10000 % 2;
-    let d = w / 0x1000000 % 2;
-    let e = w / 0x100000000 % 2;
-    let f = w / 0x10000000000 % 2;
-    let g = w / 0x1000000000000 % 2;
-    let h = w / 0x100000000000000 % 2;
-    let text = 0x3030303030303030
-        + a
-        + b * 0x100
-        + c * 0x10000
-        + d * 0x1000000
-        + e * 0x100000000
-        + f * 0x10000000000
-        + g * 0x1000000000000
-        + h * 0x100000000000000;
+    let x = w & 0x101010101010101;
+    let high = x % 0x100000000 * 0x8040201 / 0x1000000 % 16;
+    let low = x / 0x100000000 * 0x8040201 / 0x1000000 % 16;
+    let guess = high * 16 + low;
     Octet {
-        good: w == text,
-        value: (a * 128 + b * 64 + c * 32 + d * 16 + e * 8 + f * 4 + g * 2 + h) as u32,
+        good: characters(guess) == w,
+        value: guess as u32,
     }
 }
 
@@ -172,13 +170,45 @@ fn mask_here(code: u8, v: u32, s: &[u8], q: usize, lines: u32) -> Passed
     }
 }
 
-// A column of sixteen bits.
-pub fn mask(code: u8, v: u32, s: &[u8], q: usize, lines: u32) -> Passed
+// HBUSREQ.
+pub fn requests(v: u32, s: &[u8], q: usize, lines: u32) -> Passed
     requires { ⌜ (q + 20 ≤ length (now s)) × (lines ≤ 16) ⌝ }
-    ensures { λ r. ⌜ Passes 16 code v (now (s .entry)) q lines (r .value) (r .next) (r .lines) ⌝ }
+    ensures { λ r. ⌜ Passes 16 33 v (now (s .entry)) q lines (r .value) (r .next) (r .lines) ⌝ }
 {
-    if s[q + 18] == code {
-        mask_here(code, v, s, q, lines)
+    if s[q + 18] == 33 {
+        mask_here(33, v, s, q, lines)
+    } else {
+        Passed {
+            value: v,
+            next: q,
+            lines,
+        }
+    }
+}
+
+// HLOCK.
+pub fn locks(v: u32, s: &[u8], q: usize, lines: u32) -> Passed
+    requires { ⌜ (q + 20 ≤ length (now s)) × (lines ≤ 16) ⌝ }
+    ensures { λ r. ⌜ Passes 16 34 v (now (s .entry)) q lines (r .value) (r .next) (r .lines) ⌝ }
+{
+    if s[q + 18] == 34 {
+        mask_here(34, v, s, q, lines)
+    } else {
+        Passed {
+            value: v,
+            next: q,
+            lines,
+        }
+    }
+}
+
+// HGRANT.
+pub fn grants(v: u32, s: &[u8], q: usize, lines: u32) -> Passed
+    requires { ⌜ (q + 20 ≤ length (now s)) × (lines ≤ 16) ⌝ }
+    ensures { λ r. ⌜ Passes 16 38 v (now (s .entry)) q lines (r .value) (r .next) (r .lines) ⌝ }
+{
+    if s[q + 18] == 38 {
+        mask_here(38, v, s, q, lines)
     } else {
         Passed {
             value: v,

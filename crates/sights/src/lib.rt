@@ -29,8 +29,8 @@ fn see_inputs(x: Inputs, s: &[u8], q: usize) -> Asked
     requires { ⌜ q + 80 ≤ length (now s) ⌝ }
     ensures { λ r. ⌜ InputsPassed x (now (s .entry)) q 1 (r .inputs) (r .next) (r .lines) ⌝ }
 {
-    let a = columns::mask(b'!', x.hbusreq, s, q, 1);
-    let b = columns::mask(b'"', x.hlock, s, a.next, a.lines);
+    let a = columns::requests(x.hbusreq, s, q, 1);
+    let b = columns::locks(x.hlock, s, a.next, a.lines);
     let c = columns::flag(b'#', x.hready, s, b.next, b.lines);
     let d = columns::trans(x.htrans, s, c.next, c.lines);
     let e = columns::burst(x.hburst, s, d.next, d.lines);
@@ -59,7 +59,7 @@ fn see_outputs(o: Outputs, s: &[u8], q: usize, lines: u32) -> Answered
     requires { ⌜ (q + 54 ≤ length (now s)) × (lines ≤ 6) ⌝ }
     ensures { λ r. ⌜ OutputsPassed o (now (s .entry)) q lines (r .outputs) (r .next) (r .lines) ⌝ }
 {
-    let a = columns::mask(b'&', o.hgrant, s, q, lines);
+    let a = columns::grants(o.hgrant, s, q, lines);
     let b = columns::owner(o.hmaster, s, a.next, a.lines);
     let c = columns::flag(b'(', o.hmastlock, s, b.next, b.lines);
     let d = columns::flag(b')', o.decide, s, c.next, c.lines);

@@ -4,11 +4,11 @@ use borrow.Author.Needs.{needs}
 use Rattle.sights.proofs.see_inputs.Statement.{statement}
 use Rattle.sights.proofs.see_inputs.Tie as tie
 
-mask-requires : tie.Need-mask-requires
-mask-requires c κs = search needs
+requests-requires : tie.Need-requests-requires
+requests-requires c κs = search needs
 
-mask-requires-2 : tie.Need-mask-requires-2
-mask-requires-2 c κs = search needs
+locks-requires : tie.Need-locks-requires
+locks-requires c κs = search needs
 
 flag-requires : tie.Need-flag-requires
 flag-requires c κs = search needs
@@ -25,4 +25,4 @@ returns c = search inputs-passed
 pub see-inputs-spec : {M : Type 1} → statement M
 see-inputs-spec =
     tie.close
-    (tie.spec mask-requires mask-requires-2 flag-requires trans-requires burst-requires returns)
+    (tie.spec requests-requires locks-requires flag-requires trans-requires burst-requires returns)

@@ -4,8 +4,8 @@ use borrow.Author.Needs.{needs}
 use Rattle.sights.proofs.see_outputs.Statement.{statement}
 use Rattle.sights.proofs.see_outputs.Tie as tie
 
-mask-requires : tie.Need-mask-requires
-mask-requires c κs = search needs
+grants-requires : tie.Need-grants-requires
+grants-requires c κs = search needs
 
 owner-requires : tie.Need-owner-requires
 owner-requires c κs = search needs
@@ -29,7 +29,7 @@ pub see-outputs-spec : {M : Type 1} → statement M
 see-outputs-spec =
     tie.close
     (tie.spec
-    mask-requires
+    grants-requires
     owner-requires
     flag-requires
     flag-requires-2
