@@ -7,9 +7,6 @@ use conversions::Position;
 use formats::HeaderRead;
 use formats::Word;
 use formats::Written;
-use rules::Cycle;
-use rules::Inputs;
-use rules::Outputs;
 use streams::Flow;
 ghost use mathlib.Core.Path.{_≡_};
 ghost use mathlib.Core.Bool.{true};
@@ -18,37 +15,8 @@ ghost use lib.ListN.{length};
 ghost use Rattle.rules.specs.State.{mastersOk};
 ghost use Rattle.streams.specs.Turns.{Put};
 ghost use Rattle.waves.specs.Header.{dumpHeader};
-ghost use Rattle.conversions.specs.Positions.{startAt, positionFormed};
-ghost use Rattle.conversions.specs.Dumping.{firstLine};
 ghost use Rattle.conversions.specs.Blocks.{dumpBlockOf, dumpBlockLeft};
 ghost use Rattle.conversions.specs.Heads.{dumpHeadOf, dumpHeadLeft};
-
-// A conversion at its start.
-fn start(n: u32) -> Position
-    ensures { λ r. ⌜ r ≡ startAt n firstLine ⌝ }
-{
-    let inputs = Inputs {
-        hbusreq: 0,
-        hlock: 0,
-        hready: 0,
-        htrans: 0,
-        hburst: 0,
-    };
-    let outputs = Outputs {
-        hgrant: 0,
-        hmaster: 0,
-        hmastlock: 0,
-        decide: 0,
-        granted: 0,
-        busreq: 0,
-    };
-    Position {
-        n,
-        count: 0,
-        before: Cycle { inputs, outputs },
-        line: 2,
-    }
-}
 
 // The dump's header.
 fn put_header(n: u32, out: &mut [u8]) -> usize
@@ -69,29 +37,21 @@ pub fn dump_head(head: &[u8], out: &mut [u8]) -> Converted
         return Converted {
             written: 0,
             flow: Flow::Short,
-            position: start(0),
+            position: positions::start(0, 2),
         };
     }
     match headers::read_header(Word::Trace, head) {
         HeaderRead::Header(n, _) => Converted {
             written: put_header(n, out),
             flow: Flow::GoesOn,
-            position: start(n),
+            position: positions::start(n, 2),
         },
         HeaderRead::Refused(r) => Converted {
             written: reports::put_refused(1, r, out),
             flow: Flow::Stopped,
-            position: start(0),
+            position: positions::start(0, 2),
         },
     }
-}
-
-// Whether a position is well formed.
-fn formed(p: Position) -> bool
-    ensures { λ r. ⌜ r ≡ positionFormed p ⌝ }
-{
-    let masters = fields::masters_ok(p.n);
-    masters & (p.count <= 1000000) & (p.line as u64 <= 12 * (p.count as u64) + 17)
 }
 
 // One block of a trace: 9, 10, or its steps as far as they go.
@@ -105,7 +65,7 @@ pub fn dump_block(p: Position, block: &[u8], out: &mut [u8]) -> Converted
             position: p,
         };
     }
-    if !formed(p) {
+    if !positions::formed(p) {
         return Converted {
             written: 0,
             flow: Flow::Unformed,

@@ -6,43 +6,11 @@ use conversions::Converted;
 use conversions::Position;
 pub use cuts::cut;
 use formats::HeaderRead;
-use rules::Cycle;
-use rules::Inputs;
-use rules::Outputs;
 use streams::Flow;
 ghost use mathlib.Core.Path.{_≡_};
 ghost use lib.ListN.{length};
-ghost use Rattle.conversions.specs.Positions.{startAt, positionFormed};
-ghost use Rattle.conversions.specs.Undumping.{firstStep};
 ghost use Rattle.conversions.specs.Blocks.{undumpBlockOf, undumpBlockLeft};
 ghost use Rattle.conversions.specs.Heads.{undumpHeadOf, undumpHeadLeft};
-
-// A conversion at its start.
-fn start(n: u32) -> Position
-    ensures { λ r. ⌜ r ≡ startAt n firstStep ⌝ }
-{
-    let inputs = Inputs {
-        hbusreq: 0,
-        hlock: 0,
-        hready: 0,
-        htrans: 0,
-        hburst: 0,
-    };
-    let outputs = Outputs {
-        hgrant: 0,
-        hmaster: 0,
-        hmastlock: 0,
-        decide: 0,
-        granted: 0,
-        busreq: 0,
-    };
-    Position {
-        n,
-        count: 0,
-        before: Cycle { inputs, outputs },
-        line: 17,
-    }
-}
 
 // The header of a dump: 9, or the trace's header and the start, or the line of a refusal.
 pub fn undump_head(head: &[u8], out: &mut [u8]) -> Converted
@@ -52,29 +20,21 @@ pub fn undump_head(head: &[u8], out: &mut [u8]) -> Converted
         return Converted {
             written: 0,
             flow: Flow::Short,
-            position: start(0),
+            position: positions::start(0, 17),
         };
     }
     match scans::read_dump_header(head) {
         HeaderRead::Header(n, _) => Converted {
             written: reports::put_header(n, out),
             flow: Flow::GoesOn,
-            position: start(n),
+            position: positions::start(n, 17),
         },
         HeaderRead::Refused(r) => Converted {
             written: reports::put_refused(1, r, out),
             flow: Flow::Stopped,
-            position: start(0),
+            position: positions::start(0, 17),
         },
     }
-}
-
-// Whether a position is well formed.
-fn formed(p: Position) -> bool
-    ensures { λ r. ⌜ r ≡ positionFormed p ⌝ }
-{
-    let masters = fields::masters_ok(p.n);
-    masters & (p.count <= 1000000) & (p.line as u64 <= 12 * (p.count as u64) + 17)
 }
 
 // One block of a dump: 9, 10, or its trace lines as far as they go.
@@ -88,7 +48,7 @@ pub fn undump_block(p: Position, block: &[u8], out: &mut [u8]) -> Converted
             position: p,
         };
     }
-    if !formed(p) {
+    if !positions::formed(p) {
         return Converted {
             written: 0,
             flow: Flow::Unformed,

@@ -1,7 +1,8 @@
+-- `formed` meets its contract.
 use Rattle.conversions.specs.Positions.{positionFormed}
 use borrow.Author.Needs.{needs}
-use Rattle.recalling.proofs.formed.Statement.{statement}
-use Rattle.recalling.proofs.formed.Tie as tie
+use Rattle.positions.proofs.formed.Statement.{statement}
+use Rattle.positions.proofs.formed.Tie as tie
 
 masters-ok-requires : tie.Need-masters-ok-requires
 masters-ok-requires c κs = search needs
