@@ -5,12 +5,12 @@
 --   other-time, full, unknown, known  == the four ends of a step's text
 --   no-masters, beyond, no-more, inside == the four ends at a position
 use Prim.Native.Nat.{ℕ, _+_, _-_, _≤_, _<_}
-use mathlib.Core.Path.{_≡_, refl, sym, ap, _∙_}
+use mathlib.Core.Path.{_≡_, sym, _∙_}
 use mathlib.Core.Bool.{Bool, true, false, not, _&&_, cond}
 use mathlib.Core.List.{List}
 use native.Mathlib.Omega.{arith}
 use borrow.Author.Tests.{lt-ltb, le-ltb, eq-eqb, ne-eqb, not-true, not-false}
-use lib.Dec.{eqb, leb, ltb}
+use lib.Dec.{eqb, leb}
 use lib.ListN.{length, take, drop}
 use Rattle.rules.specs.declared.Refusal.the-variants as refusal
 use Rattle.rules.specs.declared.Cycle.{Cycle}

@@ -5,7 +5,7 @@
 --   read-whole      == the end
 use Prim.Native.Nat.{ℕ, zero, suc, _+_, _-_, _*_, _^_, _≤_, _<_}
 use mathlib.Core.Path.{_≡_, refl, sym, ap, _∙_}
-use mathlib.Core.Bool.{Bool, true, false, _&&_, _||_, cond, and-true, and-assoc}
+use mathlib.Core.Bool.{Bool, true, _&&_, _||_, cond, and-true, and-assoc}
 use mathlib.Core.List.{List}
 use native.Mathlib.Omega.{arith}
 use native.Mathlib.Nat.{pow-suc, pow-le-pow-right}

@@ -3,8 +3,8 @@
 --   time-size       == the bytes of that line
 --   laid-inside     == a buffer that begins with `#` and then has the time and LF has room for it
 --   line-compared, number-compared == what the bytes of that buffer are compared for: the line, and the number with no digit after it
-use Prim.Native.Nat.{ℕ, _+_, _-_, _≤_, _<_}
-use mathlib.Core.Path.{_≡_, refl, sym, ap, _∙_}
+use Prim.Native.Nat.{ℕ, _+_, _-_, _≤_}
+use mathlib.Core.Path.{_≡_, _∙_}
 use mathlib.Core.Bool.{Bool, not, _&&_}
 use mathlib.Core.List.{List, [], _∷_, _++_, append-assoc}
 use native.Mathlib.Omega.{arith}

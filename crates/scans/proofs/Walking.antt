@@ -4,7 +4,7 @@
 --   walked-placed, walked-absent == one variable: its line is there, or not
 --   inputs-walked, outputs-walked == all of a side, one after the other
 --   shape-walked, cycle-walked == the whole step
-use Prim.Native.Nat.{ℕ, _+_, _-_, _≤_, _<_}
+use Prim.Native.Nat.{ℕ, _+_, _-_, _≤_}
 use mathlib.Core.Path.{_≡_, refl, sym, ap, _∙_}
 use mathlib.Core.Bool.{Bool, true, false, not, _&&_, _||_, cond, and-assoc}
 use mathlib.Core.List.{List, [], _∷_, _++_}

@@ -14,12 +14,12 @@ ghost use mathlib.Core.Path.{_≡_};
 ghost use mathlib.Core.Bool.{cond};
 ghost use Prim.Native.Nat.{_+_, _≤_};
 ghost use lib.ListN.{length, drop};
-ghost use Rattle.rules.specs.declared.Refusal.the-variants.{Shape, Variable};
+ghost use Rattle.rules.specs.declared.Refusal.the-variants.{Shape};
 ghost use Rattle.formats.specs.declared.TraceRead.the-variants.{Refused};
 ghost use Rattle.formats.specs.Lines.{lineCheck};
 ghost use Rattle.waves.specs.Steps.{timeLine};
 ghost use Rattle.waves.specs.Header.{begins};
-ghost use Rattle.waves.specs.Reading.{stepText, unknownIn, stepShaped, stepCycle, stepChecked, stepIn, readStepOf};
+ghost use Rattle.waves.specs.Reading.{stepText, stepShaped, stepCycle, stepChecked, stepIn, readStepOf};
 
 // The position after the step at p: the next line that begins with `#`, or the end of what is looked at.
 fn step_end(s: &[u8], p: usize) -> usize

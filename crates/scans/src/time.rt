@@ -1,6 +1,5 @@
 // The time of a step.
 ghost use mathlib.Core.Path.{_≡_};
-ghost use Prim.Native.Nat.{_≤_};
 ghost use lib.ListN.{length};
 ghost use Rattle.waves.specs.Header.{begins};
 ghost use Rattle.waves.specs.Steps.{timeLine};

@@ -8,7 +8,7 @@ ghost use Prim.Native.Nat.{_+_, _-_, _≤_};
 ghost use lib.Dec.{eqb};
 ghost use lib.ListN.{length, drop};
 ghost use Rattle.formats.specs.Columns.{cycleValues};
-ghost use Rattle.waves.specs.Variables.{variables, sizeOf};
+ghost use Rattle.waves.specs.Variables.{variables};
 ghost use Rattle.waves.specs.Reading.{lineSize, placed as placedOf, bitsIn, valueIn, shaped, valuesIn, cycleOf};
 ghost use Rattle.scans.specs.Walks.{variable, Walked, InputsWalked, OutputsWalked};
 

@@ -50,7 +50,7 @@ pub record InputsPassed (x : Inputs) (s : List ℕ) (q l : ℕ) (y : Inputs) (ne
   pub bytes : (xs : List Variable) (vs us r : List ℕ) → drop next s ≡ changes false xs vs us ++ r
       → drop q s ≡ changes false (coded 33 inputColumns ++ xs) (inputValues x ++ vs) (inputValues y ++ us) ++ r
   pub lines : m ≡ l + counted (inputValues x) (inputValues y)
-  pub near : next ≤ q + 66
+  pub near : next ≤ q + 58
   pub few : m ≤ l + 5
 
 pub record OutputsPassed (x : Outputs) (s : List ℕ) (q l : ℕ) (y : Outputs) (next m : ℕ) : Type 0 where

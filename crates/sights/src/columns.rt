@@ -5,7 +5,7 @@ ghost use Prim.Native.Nat.{_+_, _≤_, _<_};
 ghost use lib.ListN.{length, getD};
 ghost use Rattle.words.specs.Words.{lowFirst};
 ghost use Rattle.waves.specs.Variables.{bits};
-ghost use Rattle.sights.specs.Sights.{variable, Passed as Passes};
+ghost use Rattle.sights.specs.Sights.{Passed as Passes};
 
 // A column passed: its value, the position after it, and the lines so far.
 pub struct Passed {
