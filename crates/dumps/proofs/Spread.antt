@@ -4,9 +4,10 @@
 --   spread-fits        == that number has 64 bits
 --   bits-length        == w bits are w characters
 --   bits-more, bits-none == bits that are written one by one: the first and the rest, and none
---   one-line, few-line, mask-line == the line of a variable of so many bits, byte by byte
+--   scalar-line, vector-line == the line of a variable of one bit, and of several
+--   mask-put           == sixteen bits, written as two runs of eight
 use Prim.Native.Nat.{ℕ, zero, suc, _+_, _-_, _*_, _/_, _%_, _^_, _≤_, _<_}
-use mathlib.Core.Path.{_≡_, refl, ap}
+use mathlib.Core.Path.{_≡_, refl, sym, ap, _∙_}
 use mathlib.Core.List.{List, [], _∷_, _++_}
 use native.Mathlib.Omega.{arith}
 use native.Mathlib.Nat.{div-one}
@@ -18,6 +19,7 @@ use lib.Seq.{sets}
 use Rattle.words.specs.Words.{lowFirst}
 use Rattle.words.proofs.Tables.{same-below}
 use Rattle.waves.specs.Variables.{bits, change}
+use Rattle.fields.proofs.Stores.{then-sets}
 use Rattle.dumps.specs.Changed.{variable}
 
 -- the arithmetic of `spread`
@@ -37,13 +39,13 @@ pub spread-fits : (b : ℕ) → spreadOf b < 2 ^ 64
 spread-fits b = omega (arith, and-le-r ((b * 18049651735527937 + b % 2 * 9223372036854775808) / 128) 72340172838076673)
 
 module _ (k u : ℕ) where
-  pub one-line : change (variable 1 k) u ≡ (48 + u % 2) ∷ k ∷ 10 ∷ []
+  pub scalar-line : change (variable 1 k) u ≡ (48 + u % 2) ∷ k ∷ 10 ∷ []
   unfolding change
-  one-line = rw div-one
+  scalar-line = rw div-one
 
-  pub few-line : (w : ℕ) → 2 ≤ w → change (variable w k) u ≡ 98 ∷ (bits w u ++ (32 ∷ k ∷ 10 ∷ []))
+  pub vector-line : (w : ℕ) → 2 ≤ w → change (variable w k) u ≡ 98 ∷ (bits w u ++ (32 ∷ k ∷ 10 ∷ []))
   unfolding change
-  few-line w h = rw (ne-eqb w 1 (λ e. omega arith))
+  vector-line w h = rw (ne-eqb w 1 (λ e. omega arith))
 
 pub bits-length : (w v : ℕ) → length (bits w v) ≡ w
 bits-length zero v = refl
@@ -98,8 +100,13 @@ bits-of u =
       l0 = omega arith;
     }
 
-pub mask-line : (k u : ℕ) → change (variable 16 k) u ≡ 98 ∷ ((bits 8 (u / 256 % 256) ++ bits 8 (u % 256)) ++ (32 ∷ k ∷ 10 ∷ []))
-unfolding change
-mask-line k u =
+pub sixteen : (u : ℕ) → bits 8 (u / 256 % 256) ++ bits 8 (u % 256) ≡ bits 16 u
+sixteen u =
     let b = bits-of u in
     rw (b .h7, b .h6, b .h5, b .h4, b .h3, b .h2, b .h1, b .h0, b .l7, b .l6, b .l5, b .l4, b .l3, b .l2, b .l1, b .l0)
+
+-- sixteen bits by two runs of eight
+pub mask-put : (w v at : ℕ) (b c d : List ℕ) → w ≡ 16 → c ≡ sets b at (bits 8 (v / 256 % 256)) → d ≡ sets c (at + 8) (bits 8 (v % 256)) → d ≡ sets b at (bits w v)
+mask-put w v at b c d n e f =
+    then-sets b c d at (at + 8) (bits 8 (v / 256 % 256)) (bits 8 (v % 256)) e (omega arith) f
+    ∙ ap (sets b at) (sixteen v ∙ ap (λ (k : ℕ). bits k v) (sym n))

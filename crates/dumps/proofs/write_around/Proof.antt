@@ -1,4 +1,5 @@
 -- `write_around` meets its contract: both ends of a writer.
+use native.Mathlib.Omega.{arith}
 use Rattle.dumps.proofs.Writers.{around-short, around-written}
 use borrow.Author.Needs.{needs}
 use Rattle.dumps.proofs.write_around.Statement.{statement}
@@ -8,13 +9,13 @@ decimal-length-requires : tie.Need-decimal-length-requires
 decimal-length-requires c κs = search needs
 
 add-size : tie.Need-add-size
-add-size c = search needs
+add-size c = omega arith
 
 add-size-2 : tie.Need-add-size-2
-add-size-2 c = search needs
+add-size-2 c = omega arith
 
 add-size-3 : tie.Need-add-size-3
-add-size-3 c = search needs
+add-size-3 c = omega arith
 
 returns : tie.Need-returns
 returns c = let d = c .before in let a = d .before .before .before .before .args in
@@ -27,13 +28,13 @@ put-decimal-requires : tie.Need-put-decimal-requires
 put-decimal-requires c κs = search needs
 
 sub-put-word : tie.Need-sub-put-word
-sub-put-word c = search needs
+sub-put-word c = omega arith
 
 part-put-word-start : tie.Need-part-put-word-start
-part-put-word-start c = search needs
+part-put-word-start c = omega arith
 
 part-put-word-end : tie.Need-part-put-word-end
-part-put-word-end c = search needs
+part-put-word-end c = omega arith
 
 put-word-requires-2 : tie.Need-put-word-requires-2
 put-word-requires-2 c κs = search needs

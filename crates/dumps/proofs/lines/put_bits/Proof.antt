@@ -1,73 +1,44 @@
--- `put_bits` meets its contract. Invariant: with the bits to come the buffer is what it is to be. Measure: those bits.
-use Prim.Native.Nat.{_+_, _≤_}
-use mathlib.Core.Path.{_≡_, refl, sym, _∙_}
+-- `put_bits` meets its contract: two words, or one by one.
 use native.Mathlib.Omega.{arith}
-use lib.ListN.{length, length-set}
-use lib.Seq.{sets}
-use Rattle.waves.specs.Variables.{bits}
-use Rattle.dumps.proofs.Spread.{bits-more, bits-none}
+use Rattle.dumps.proofs.Spread.{mask-put}
+use borrow.Author.Needs.{needs}
 use Rattle.dumps.proofs.lines.put_bits.Statement.{statement}
 use Rattle.dumps.proofs.lines.put_bits.Tie as tie
 
-abbrev Inv-loop : tie.InvT-loop
-Inv-loop width v buf₀ at i₀ p₀ buf i p =
-    (i ≤ 4) × (p + i ≡ at + width) × (length buf ≡ length buf₀) × (sets buf p (bits i v) ≡ sets buf₀ at (bits width v))
+put-byte-requires : tie.Need-put-byte-requires
+put-byte-requires c κs = search needs
 
-abbrev μ-loop : tie.MeasureT-loop
-μ-loop width v buf₀ at i₀ p₀ buf i p = i
+add-put-byte : tie.Need-add-put-byte
+add-put-byte c = omega arith
 
-loop-holds : tie.Need-loop-holds Inv-loop μ-loop
-loop-holds c = (omega arith, refl, refl, refl)
+put-byte-requires-2 : tie.Need-put-byte-requires-2
+put-byte-requires-2 c κs = search needs
 
-sub-i : tie.Need-sub-i Inv-loop μ-loop
-sub-i c = omega arith
+put-few-requires : tie.Need-put-few-requires
+put-few-requires c κs = search needs
 
-cast-buf : tie.Need-cast-buf Inv-loop μ-loop
-cast-buf c = omega arith
+same-length : tie.Need-same-length
+same-length c = search needs
 
-shr-buf : tie.Need-shr-buf Inv-loop μ-loop
-shr-buf c = omega arith
+returns : tie.Need-returns
+returns c = let q = c .before .before in let p = q .before .before .before .before in let t = p .before .before in let a = t .before .before .args in
+    mask-put (a .width) (a .v) (a .at) (a .buf .now) _ _ (t .if1 .taken) (p .put-byte .ensures) (q .put-byte2 .ensures)
 
-cast-buf-2 : tie.Need-cast-buf-2 Inv-loop μ-loop
-cast-buf-2 c = omega arith
+same-length-2 : tie.Need-same-length-2
+same-length-2 c = search needs
 
-add-buf : tie.Need-add-buf Inv-loop μ-loop
-add-buf c = omega arith
-
-slice-write-buf : tie.Need-slice-write-buf Inv-loop μ-loop
-slice-write-buf c = omega arith
-
-add-p : tie.Need-add-p Inv-loop μ-loop
-add-p c = omega arith
-
-loop-less : tie.Need-loop-less Inv-loop μ-loop
-loop-less c = omega arith
-
-loop-again : tie.Need-loop-again Inv-loop μ-loop
-loop-again c = let l = c .before .loop in let a = c .before .before .args in
-    (omega arith, omega arith, simp length-set (l .inv .2), bits-more (l .buf) (l .i) (l .p) (a .v) (omega arith) ∙ l .inv .3)
-
-same-length : tie.Need-same-length Inv-loop μ-loop
-same-length c = c .before .loop .inv .2
-
-returns : tie.Need-returns Inv-loop μ-loop
-returns c = let l = c .before .loop in sym (bits-none (l .buf) (l .i) (l .p) (c .before .before .args .v) (c .loop-test .left)) ∙ l .inv .3
+returns-2 : tie.Need-returns-2
+returns-2 c = search needs
 
 pub put-bits-spec : {M : Type 1} → statement M
 put-bits-spec =
     tie.close
     (tie.spec
-    Inv-loop
-    μ-loop
-    loop-holds
-    sub-i
-    cast-buf
-    shr-buf
-    cast-buf-2
-    add-buf
-    slice-write-buf
-    add-p
-    loop-less
-    loop-again
+    put-byte-requires
+    add-put-byte
+    put-byte-requires-2
+    put-few-requires
     same-length
-    returns)
+    returns
+    same-length-2
+    returns-2)

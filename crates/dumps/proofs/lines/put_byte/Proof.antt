@@ -12,13 +12,13 @@ spread-requires : tie.Need-spread-requires
 spread-requires c κs = search needs
 
 sub-put-eight : tie.Need-sub-put-eight
-sub-put-eight c = search needs
+sub-put-eight c = omega arith
 
 part-put-eight-start : tie.Need-part-put-eight-start
-part-put-eight-start c = search needs
+part-put-eight-start c = omega arith
 
 part-put-eight-end : tie.Need-part-put-eight-end
-part-put-eight-end c = search needs
+part-put-eight-end c = omega arith
 
 put-eight-requires : tie.Need-put-eight-requires
 put-eight-requires c κs = search needs

@@ -1,75 +1,73 @@
--- `put_few` meets its contract: the line, or none.
-use Prim.Native.Nat.{_+_}
+-- `put_few` meets its contract. Invariant: with the bits to come the buffer is what it is to be. Measure: those bits.
+use Prim.Native.Nat.{_+_, _≤_}
+use mathlib.Core.Path.{_≡_, refl, sym, _∙_}
 use native.Mathlib.Omega.{arith}
-use lib.ListN.{length-set}
+use lib.ListN.{length, length-set}
+use lib.Seq.{sets}
 use Rattle.waves.specs.Variables.{bits}
-use Rattle.dumps.specs.Changed.{variable}
-use Rattle.dumps.proofs.Spread.{bits-length, few-line}
-use Rattle.dumps.proofs.Puts.{put-none, put-line, line-stores, line-end, line-short}
-use borrow.Author.Needs.{needs}
+use Rattle.dumps.proofs.Spread.{bits-more, bits-none}
 use Rattle.dumps.proofs.lines.put_few.Statement.{statement}
 use Rattle.dumps.proofs.lines.put_few.Tie as tie
 
-add-put-bits : tie.Need-add-put-bits
-add-put-bits c = search needs
+abbrev Inv-loop : tie.InvT-loop
+Inv-loop width v buf₀ at i₀ p₀ buf i p =
+    (i ≤ 16) × (p + i ≡ at + width) × (length buf ≡ length buf₀) × (sets buf p (bits i v) ≡ sets buf₀ at (bits width v))
 
-put-bits-requires : tie.Need-put-bits-requires
-put-bits-requires c κs = search needs
+abbrev μ-loop : tie.MeasureT-loop
+μ-loop width v buf₀ at i₀ p₀ buf i p = i
 
-add-end : tie.Need-add-end
-add-end c = search needs
+loop-holds : tie.Need-loop-holds Inv-loop μ-loop
+loop-holds c = (omega arith, refl, refl, refl)
 
-add-end-2 : tie.Need-add-end-2
-add-end-2 c = search needs
+sub-i : tie.Need-sub-i Inv-loop μ-loop
+sub-i c = omega arith
 
-slice-write-buf : tie.Need-slice-write-buf
-slice-write-buf c = search needs
+cast-buf : tie.Need-cast-buf Inv-loop μ-loop
+cast-buf c = omega arith
 
-slice-write-buf-2 : tie.Need-slice-write-buf-2
-slice-write-buf-2 c = simp length-set (omega arith)
+shr-buf : tie.Need-shr-buf Inv-loop μ-loop
+shr-buf c = omega arith
 
-add-buf : tie.Need-add-buf
-add-buf c = search needs
+cast-buf-2 : tie.Need-cast-buf-2 Inv-loop μ-loop
+cast-buf-2 c = omega arith
 
-slice-write-buf-3 : tie.Need-slice-write-buf-3
-slice-write-buf-3 c = simp length-set (omega arith)
+add-buf : tie.Need-add-buf Inv-loop μ-loop
+add-buf c = omega arith
 
-add-buf-2 : tie.Need-add-buf-2
-add-buf-2 c = search needs
+slice-write-buf : tie.Need-slice-write-buf Inv-loop μ-loop
+slice-write-buf c = omega arith
 
-slice-write-buf-4 : tie.Need-slice-write-buf-4
-slice-write-buf-4 c = simp length-set (omega arith)
+add-p : tie.Need-add-p Inv-loop μ-loop
+add-p c = omega arith
 
-add-result : tie.Need-add-result
-add-result c = search needs
+loop-less : tie.Need-loop-less Inv-loop μ-loop
+loop-less c = omega arith
 
-same-length : tie.Need-same-length
-same-length c = search needs
+loop-again : tie.Need-loop-again Inv-loop μ-loop
+loop-again c = let l = c .before .loop in let a = c .before .before .args in
+    (omega arith, omega arith, simp length-set (l .inv .2), bits-more (l .buf) (l .i) (l .p) (a .v) (omega arith) ∙ l .inv .3)
 
-returns : tie.Need-returns
-returns c = let q = c .before .before in let t = q .before .before in let s = t .before .before in let a = s .args in
-    let bs = bits (a .width) (a .u) in let n = bits-length (a .width) (a .u) in
-    put-line (a .buf .now) (a .at) (a .all) (variable (a .width) (a .code)) (a .v) (a .u) (a .width + 4) _ _ _ (t .if1 .taken) (few-line (a .code) (a .u) (a .width) (s .pre .0))
-    (line-end bs (a .at) (a .at + a .width + 1) (a .code) (omega (arith, n))) (line-short bs (a .width) (a .code) n) (line-stores (a .buf .now) _ bs (a .at) (a .at + a .width + 1) (a .code) (q .put-bits .ensures) (omega (arith, n)))
+same-length : tie.Need-same-length Inv-loop μ-loop
+same-length c = c .before .loop .inv .2
 
-returns-2 : tie.Need-returns-2
-returns-2 c = let a = c .before .before .args in put-none (a .buf .now) (a .at) (a .all) (variable (a .width) (a .code)) (a .v) (a .u) (a .width + 4) (c .if1 .left)
+returns : tie.Need-returns Inv-loop μ-loop
+returns c = let l = c .before .loop in sym (bits-none (l .buf) (l .i) (l .p) (c .before .before .args .v) (c .loop-test .left)) ∙ l .inv .3
 
 pub put-few-spec : {M : Type 1} → statement M
 put-few-spec =
     tie.close
     (tie.spec
-    add-put-bits
-    put-bits-requires
-    add-end
-    add-end-2
-    slice-write-buf
-    slice-write-buf-2
+    Inv-loop
+    μ-loop
+    loop-holds
+    sub-i
+    cast-buf
+    shr-buf
+    cast-buf-2
     add-buf
-    slice-write-buf-3
-    add-buf-2
-    slice-write-buf-4
-    add-result
+    slice-write-buf
+    add-p
+    loop-less
+    loop-again
     same-length
-    returns
-    returns-2)
+    returns)

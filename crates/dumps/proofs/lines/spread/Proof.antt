@@ -1,14 +1,14 @@
 -- `spread` meets its contract: one computed row for each of the 256 bytes.
+use native.Mathlib.Omega.{arith}
 use Rattle.dumps.proofs.Spread.{copies-fit, spread-bits, spread-fits}
-use borrow.Author.Needs.{needs}
 use Rattle.dumps.proofs.lines.spread.Statement.{statement}
 use Rattle.dumps.proofs.lines.spread.Tie as tie
 
 mul-copies : tie.Need-mul-copies
-mul-copies c = search needs
+mul-copies c = omega arith
 
 mul-copies-2 : tie.Need-mul-copies-2
-mul-copies-2 c = search needs
+mul-copies-2 c = omega arith
 
 add-copies : tie.Need-add-copies
 add-copies c = record { fits = copies-fit (c .args .b) (c .pre) }

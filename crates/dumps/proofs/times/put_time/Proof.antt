@@ -15,7 +15,7 @@ put-decimal-requires : tie.Need-put-decimal-requires
 put-decimal-requires c κs = let a = c .before .before .before in omega (arith, at-most-six (a .args .t) (a .pre .1))
 
 slice-write-buf : tie.Need-slice-write-buf
-slice-write-buf c = search needs
+slice-write-buf c = omega arith
 
 same-length : tie.Need-same-length
 same-length c = search needs
