@@ -5,8 +5,8 @@
 --   long-line          == the line of a time of six digits, as one number
 --   long-fits          == that number has 64 bits
 --   long-put           == that line, written as one number
-use Prim.Native.Nat.{ℕ, zero, suc, _+_, _*_, _/_, _%_, _^_, _≤_, _<_}
-use mathlib.Core.Path.{_≡_, refl, sym, ap, _∙_}
+use Prim.Native.Nat.{ℕ, zero, suc, _+_, _/_, _%_, _^_, _≤_, _<_}
+use mathlib.Core.Path.{_≡_, refl, ap, _∙_}
 use mathlib.Core.List.{List, [], _∷_, _++_}
 use native.Mathlib.Omega.{arith}
 use native.Mathlib.Nat.{pow-suc, div-lt-iff-lt-mul}
@@ -21,7 +21,8 @@ use Rattle.words.proofs.Words.{none-bytes, one-more, again-bytes}
 use Rattle.formats.specs.Digits.{decimal, decimalBefore}
 use Rattle.waves.specs.Steps.{timeLine}
 use Rattle.fields.proofs.Stores.{set-first}
-use Rattle.dumps.specs.Changed.{sixOf, Put}
+use Rattle.dumps.specs.Changed.{Put}
+use Rattle.dumps.specs.Clock.{sixOf}
 
 few-digits : (j k v : ℕ) (l : List ℕ) → v < 10 ^ suc j → length (decimalBefore k v l) ≤ suc j + length l
 unfolding decimalBefore
@@ -45,17 +46,21 @@ short-put t b c r h n e =
       bytes = set-first b c 0 35 (decimal t ++ (10 ∷ [])) e;
     }
 
+-- the line `#000000`
+abbrev zeros : ℕ
+zeros = 734139722786418723
+
 six-bytes : (u v w x y z : ℕ) → u < 10 → v < 10 → w < 10 → x < 10 → y < 10 → z < 10
-    → lowFirst 8 (sixOf u v w x y z + 734139722786418723) ≡ 35 ∷ (48 + u) ∷ (48 + v) ∷ (48 + w) ∷ (48 + x) ∷ (48 + y) ∷ (48 + z) ∷ 10 ∷ []
+    → lowFirst 8 (sixOf u v w x y z + zeros) ≡ 35 ∷ (48 + u) ∷ (48 + v) ∷ (48 + w) ∷ (48 + x) ∷ (48 + y) ∷ (48 + z) ∷ 10 ∷ []
 six-bytes u v w x y z hu hv hw hx hy hz =
     let l : List ℕ = 35 ∷ (48 + u) ∷ (48 + v) ∷ (48 + w) ∷ (48 + x) ∷ (48 + y) ∷ (48 + z) ∷ 10 ∷ [] in
-    let sum : sixOf u v w x y z + 734139722786418723 ≡ numberLow 8 l 0 = omega arith in
+    let sum : sixOf u v w x y z + zeros ≡ numberLow 8 l 0 = omega arith in
     ap (lowFirst 8) sum
     ∙ again-bytes 8 l
     (one-more (omega arith) (one-more (omega arith) (one-more (omega arith) (one-more (omega arith) (one-more (omega arith) (one-more (omega arith) (one-more (omega arith) (one-more (omega arith) none-bytes))))))))
     refl
 
-six-fits : (u v w x y z : ℕ) → u < 10 → v < 10 → w < 10 → x < 10 → y < 10 → z < 10 → sixOf u v w x y z + 734139722786418723 < 2 ^ 64
+six-fits : (u v w x y z : ℕ) → u < 10 → v < 10 → w < 10 → x < 10 → y < 10 → z < 10 → sixOf u v w x y z + zeros < 2 ^ 64
 six-fits u v w x y z hu hv hw hx hy hz = omega arith
 
 -- the digits of a number from its two halves
@@ -80,19 +85,19 @@ module _ (t : ℕ) (few : 100000 ≤ t) (many : t < mostCycles) where
 
   pub long-line : (r : ℕ)
       → r ≡ sixOf (t / 1000 / 100) (t / 1000 / 10 % 10) (t / 1000 % 10) (t % 1000 / 100) (t % 1000 / 10 % 10) (t % 1000 % 10)
-      → lowFirst 8 (r + 734139722786418723) ≡ timeLine t
+      → lowFirst 8 (r + zeros) ≡ timeLine t
   unfolding timeLine
   long-line r e =
       let h = halves t in
       rw (e, h .0, h .1, h .2, h .3, h .4, six-digits)
       (six-bytes _ _ _ _ _ _ (omega arith) (omega arith) (omega arith) (omega arith) (omega arith) (omega arith))
 
-  digits-fit : sixOf (t / 1000 / 100) (t / 1000 / 10 % 10) (t / 1000 % 10) (t % 1000 / 100) (t % 1000 / 10 % 10) (t % 1000 % 10) + 734139722786418723 < 2 ^ 64
+  digits-fit : sixOf (t / 1000 / 100) (t / 1000 / 10 % 10) (t / 1000 % 10) (t % 1000 / 100) (t % 1000 / 10 % 10) (t % 1000 % 10) + zeros < 2 ^ 64
   digits-fit = six-fits _ _ _ _ _ _ (omega arith) (omega arith) (omega arith) (omega arith) (omega arith) (omega arith)
 
   pub long-fits : (r : ℕ)
       → r ≡ sixOf (t / 1000 / 100) (t / 1000 / 10 % 10) (t / 1000 % 10) (t % 1000 / 100) (t % 1000 / 10 % 10) (t % 1000 % 10)
-      → r + 734139722786418723 < 2 ^ 64
+      → r + zeros < 2 ^ 64
   long-fits r e = rw e digits-fit
 
 pub long-put : (t w : ℕ) (b c : List ℕ) → lowFirst 8 w ≡ timeLine t → c ≡ sets b 0 (lowFirst 8 w) → Put b 0 (timeLine t) 8 8 c

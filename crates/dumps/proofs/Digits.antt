@@ -6,7 +6,7 @@
 use Prim.Native.Nat.{ℕ, _+_, _-_, _*_, _/_, _%_, _≤_, _<_}
 use mathlib.Core.Path.{_≡_, ap, _∙_}
 use native.Mathlib.Omega.{arith}
-use Rattle.dumps.specs.Changed.{sixOf}
+use Rattle.dumps.specs.Clock.{sixOf}
 
 abbrev beside : ℕ → ℕ → ℕ
 beside a b = a * 256 + b * 4294967296

@@ -2,26 +2,18 @@
 --
 --   inputs-put, outputs-put == the lines of the variables, one after the other
 --   step-put           == the whole step
-use Prim.Native.Nat.{ℕ, zero, suc, _+_, _/_, _%_, _^_, _≤_, _<_}
-use mathlib.Core.Path.{_≡_, sym, _∙_}
+use Prim.Native.Nat.{ℕ, _≤_}
+use mathlib.Core.Path.{_≡_}
 use mathlib.Core.Bool.{Bool}
-use mathlib.Core.List.{List, [], _∷_, _++_, append-assoc}
-use native.Mathlib.Omega.{arith}
-use native.Mathlib.Nat.{pow-suc, div-lt-iff-lt-mul}
-use borrow.Author.Tests.{lt-ltb, le-ltb}
-use lib.Dec.{eqb, lit<}
-use lib.ListN.{length, drop, set, length-append}
-use lib.Seq.{sets}
+use mathlib.Core.List.{List, _++_, append-assoc}
+use lib.Dec.{eqb}
+use lib.ListN.{length, drop}
 use Rattle.rules.specs.declared.Inputs.{Inputs}
 use Rattle.rules.specs.declared.Outputs.{Outputs}
 use Rattle.rules.specs.declared.Cycle.{Cycle}
-use Rattle.rules.specs.Codes.{mostCycles}
-use Rattle.rules.proofs.Choice.{order}
-use Rattle.formats.specs.Digits.{decimal, decimalBefore}
 use Rattle.formats.specs.Columns.{inputValues, outputValues, cycleValues}
 use Rattle.waves.specs.Variables.{variables}
 use Rattle.waves.specs.Steps.{timeLine, changes, dumpStep}
-use Rattle.fields.proofs.Stores.{set-first}
 use Rattle.dumps.specs.Changed.{variable, changed, inputVariables, outputVariables, Put}
 use Rattle.dumps.proofs.Puts.{put-then, put-last, put-start}
 

@@ -3,9 +3,8 @@
 --   variable w k       == the variable with w bits and the code k
 --   changed all x v u  == the line of the variable x whose value was v and is u, or nothing
 --   inputVariables, outputVariables == the variables of the two parts of a cycle
---   sixOf u v w x y z  == six digits in one number, a byte each, from the second byte on
 --   Put b at s k r c   == the bytes s, of which there are k at most, stand in c from at on and up to r; the rest is as in b
-use Prim.Native.Nat.{ℕ, _+_, _*_, _≤_}
+use Prim.Native.Nat.{ℕ, _+_, _≤_}
 use mathlib.Core.Path.{_≡_}
 use mathlib.Core.Bool.{Bool, not, _||_, cond}
 use mathlib.Core.List.{List, []}
@@ -21,15 +20,14 @@ variable w k = record { width = w; code = k }
 unfoldable pub changed : Bool → Variable → ℕ → ℕ → List ℕ
 changed all x v u = cond (all || not (eqb u v)) (change x u) []
 
+-- the first code is '!', 33; the sixth is '&'
 abbrev pub inputVariables : List Variable
 inputVariables = coded 33 inputColumns
 
 abbrev pub outputVariables : List Variable
 outputVariables = coded 38 outputColumns
 
-abbrev pub sixOf : ℕ → ℕ → ℕ → ℕ → ℕ → ℕ → ℕ
-sixOf u v w x y z = u * 256 + v * 65536 + w * 16777216 + x * 4294967296 + y * 1099511627776 + z * 281474976710656
-
+-- what a function that puts lines into a lent buffer leaves there, and answers
 pub record Put (b : List ℕ) (at : ℕ) (s : List ℕ) (k r : ℕ) (c : List ℕ) : Type 0 where
   pub after : r ≡ at + length s
   pub within : r ≤ at + k

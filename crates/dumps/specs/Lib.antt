@@ -1,2 +1,3 @@
--- A step by its lines.
+-- A step by its lines, and the digits of its time.
 pub mod Changed
+pub mod Clock

@@ -5,7 +5,8 @@ ghost use lib.ListN.{length};
 ghost use Rattle.rules.specs.Codes.{mostCycles};
 ghost use Rattle.words.specs.Words.{lowFirst};
 ghost use Rattle.waves.specs.Steps.{timeLine};
-ghost use Rattle.dumps.specs.Changed.{sixOf, Put};
+ghost use Rattle.dumps.specs.Changed.{Put};
+ghost use Rattle.dumps.specs.Clock.{sixOf};
 
 // The digits of two numbers below a thousand, a byte each, from the second byte on. Both are taken apart at once: a product and a shift
 // stand for each division.
