@@ -1,0 +1,2 @@
+-- What the contracts of vcd2trace cite beside the definitions of the other crates.
+pub mod Answers
