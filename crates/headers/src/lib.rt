@@ -16,21 +16,22 @@ ghost use Rattle.formats.specs.Digits.{decimal};
 ghost use Rattle.formats.specs.Headers.{isDecimal, startsWith, ranged as rangedOf, numberIn, readHeaderOf, writeHeaderOf, headerWritten};
 ghost use Rattle.formats.specs.Report.{letterOf, indexOf, breachLine, endLine, refusedLine, writeOf, writtenOf};
 
-fn is_decimal(b: u8) -> bool
+// Whether a byte is a decimal digit.
+pub fn is_decimal(b: u8) -> bool
     ensures { λ r. ⌜ r ≡ isDecimal b ⌝ }
 {
     (48 <= b) & (b <= 57)
 }
 
 // The number of a decimal digit.
-fn digit(b: u8) -> u32
+pub fn digit(b: u8) -> u32
     ensures { λ r. ⌜ (r ≡ b - 48) × (r ≤ 207) ⌝ }
 {
     if 48 <= b { (b - 48) as u32 } else { 0 }
 }
 
 // The last test of a header: 1.
-fn ranged(n: u32, next: usize) -> HeaderRead
+pub fn ranged(n: u32, next: usize) -> HeaderRead
     ensures { λ r. ⌜ r ≡ rangedOf n next ⌝ }
 {
     if (2 <= n) & (n <= 16) {

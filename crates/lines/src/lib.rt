@@ -93,7 +93,7 @@ fn cycle_at(s: &[u8], p: usize) -> Cycle
 }
 
 // The tests of a trace line: HMASTER alone has room for a character that is no digit.
-fn check_line(n: u32, c: Cycle) -> Check
+pub fn check_line(n: u32, c: Cycle) -> Check
     ensures { λ r. ⌜ r ≡ lineCheck n c ⌝ }
 {
     let o = c.outputs;

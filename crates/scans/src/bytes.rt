@@ -2,14 +2,7 @@
 ghost use mathlib.Core.Path.{_≡_};
 ghost use Prim.Native.Nat.{_<_};
 ghost use lib.ListN.{length, drop};
-ghost use Rattle.formats.specs.Headers.{isDecimal};
 ghost use Rattle.waves.specs.Header.{begins as beginsWith};
-
-pub fn is_decimal(b: u8) -> bool
-    ensures { λ r. ⌜ r ≡ isDecimal b ⌝ }
-{
-    (48 <= b) & (b <= 57)
-}
 
 // Whether s begins with the word w.
 pub fn begins(s: &[u8], w: &[u8]) -> bool

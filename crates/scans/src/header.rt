@@ -2,27 +2,8 @@
 use formats::HeaderRead;
 use rules::Refusal;
 ghost use mathlib.Core.Path.{_≡_};
-ghost use Prim.Native.Nat.{_-_, _≤_};
-ghost use Rattle.formats.specs.Headers.{ranged as rangedOf};
+ghost use Prim.Native.Nat.{_≤_};
 ghost use Rattle.waves.specs.Header.{opening as openingText, closing as closingText, mastersIn, readDumpHeaderOf};
-
-// The number of a decimal digit.
-pub fn digit(b: u8) -> u32
-    ensures { λ r. ⌜ (r ≡ b - 48) × (r ≤ 207) ⌝ }
-{
-    if 48 <= b { (b - 48) as u32 } else { 0 }
-}
-
-// The last test of a header: 1.
-fn ranged(n: u32, next: usize) -> HeaderRead
-    ensures { λ r. ⌜ r ≡ rangedOf n next ⌝ }
-{
-    if fields::masters_ok(n) {
-        HeaderRead::Header(n, next)
-    } else {
-        HeaderRead::Refused(Refusal::Masters)
-    }
-}
 
 // What stands after the opening: n in one digit, or in two with no leading zero, and the closing.
 fn masters_in(s: &[u8], p: usize, closing: &[u8]) -> HeaderRead
@@ -31,17 +12,17 @@ fn masters_in(s: &[u8], p: usize, closing: &[u8]) -> HeaderRead
 {
     let a = fields::text::byte_at(s, p);
     let b = fields::text::byte_at(s, p + 1);
-    let first = crate::bytes::is_decimal(a);
-    let second = crate::bytes::is_decimal(b);
-    let tens = digit(a);
-    let ones = digit(b);
+    let first = headers::is_decimal(a);
+    let second = headers::is_decimal(b);
+    let tens = headers::digit(a);
+    let ones = headers::digit(b);
     let after_one = crate::bytes::begins_at(s, p + 1, closing);
     let after_two = crate::bytes::begins_at(s, p + 2, closing);
     if first & after_one {
-        return ranged(tens, p + 1 + closing.len());
+        return headers::ranged(tens, p + 1 + closing.len());
     }
     if first & !(a == 48) & second & after_two {
-        return ranged(tens * 10 + ones, p + 2 + closing.len());
+        return headers::ranged(tens * 10 + ones, p + 2 + closing.len());
     }
     HeaderRead::Refused(Refusal::Dump)
 }

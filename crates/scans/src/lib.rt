@@ -42,23 +42,11 @@ fn step_end(s: &[u8], p: usize) -> usize
     i
 }
 
-// The tests of a trace line: HMASTER alone has room for a character that is no bit.
-fn check_line(n: u32, c: Cycle) -> Check
-    ensures { λ r. ⌜ r ≡ lineCheck n c ⌝ }
-{
-    let o = c.outputs;
-    if 15 < o.hmaster {
-        Check::Bad(Refusal::Value)
-    } else {
-        signals::check_cycle(n, c)
-    }
-}
-
 // The last tests: 4, 5, 6, 7.
 fn checked(n: u32, c: Cycle, next: usize) -> TraceRead
     ensures { λ r. ⌜ r ≡ stepChecked (lineCheck n c) c next ⌝ }
 {
-    match check_line(n, c) {
+    match lines::check_line(n, c) {
         Check::Good => TraceRead::Line(c, next),
         Check::Bad(r) => TraceRead::Refused(r),
     }

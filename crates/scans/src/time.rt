@@ -12,8 +12,8 @@ pub fn has_time(s: &[u8]) -> bool
     let a = fields::text::byte_at(s, 0);
     let b = fields::text::byte_at(s, 1);
     let c = fields::text::byte_at(s, 2);
-    let first = crate::bytes::is_decimal(b);
-    let second = crate::bytes::is_decimal(c);
+    let first = headers::is_decimal(b);
+    let second = headers::is_decimal(c);
     (a == 35) & first & !((b == 48) & second)
 }
 
@@ -35,7 +35,7 @@ pub fn time_in(t: u32, s: &[u8]) -> Time
     let line = crate::bytes::begins(s, &word[..size]);
     let number = crate::bytes::begins(s, &word[..size - 1]);
     let after = fields::text::byte_at(s, size - 1);
-    let more = crate::bytes::is_decimal(after);
+    let more = headers::is_decimal(after);
     Time {
         right: number & !more,
         line,

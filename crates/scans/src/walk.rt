@@ -63,7 +63,7 @@ fn bits_in(width: usize, s: &[u8], p: usize) -> u32
     let mut left: usize = width;
     while 0 < left {
         let b = fields::text::byte_at(s, i);
-        let d = crate::header::digit(b);
+        let d = headers::digit(b);
         good = good & ((b == 48) | (b == 49));
         v = v * 2 + d;
         top = top * 2;
