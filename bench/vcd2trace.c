@@ -106,7 +106,10 @@ static u32 take_all(struct run *run, u32 n) {
         u32 ended = in.end < IN_BLOCK;
         u64 end = ended ? in.end : in.end - LONGEST_STEP - 1;
         /* the last step ends as if another one followed it */
-        if (ended) in.bytes[in.end] = '#';
+        if (ended) {
+            __builtin_memset(in.bytes + in.end, 0, SPARE);
+            in.bytes[in.end] = '#';
+        }
         take_steps(run, n, end);
         if (in.at < end) return refusal_of_step(in.bytes + in.at, in.end - in.at, n, run->cycles, run->last);
         if (ended) return 0;

@@ -23,7 +23,7 @@ use Rattle.formats.specs.Digits.{lf, decimalBefore}
 use Rattle.formats.specs.Texts.{bytes}
 use Rattle.formats.specs.Headers.{isDecimal, ranged}
 use Rattle.waves.specs.Header.{opening, declared, allDeclared, closing, begins, mastersIn, readDumpHeaderOf}
-use Rattle.conversions.specs.Heads.{dumpHeadSize}
+use Rattle.conversions.specs.Heads.{undumpHeadSize}
 
 begins-near : (p k : ℕ) (s t : List ℕ) → p + length t ≤ k → begins (drop p (take k s)) t ≡ begins (drop p s) t
 unfolding begins
@@ -85,12 +85,12 @@ unfolding readDumpHeaderOf mastersIn
 read-is u = rw opening-size
 
 module _ (s : List ℕ) where
-  size-lf : getD s 396 0 ≡ lf → dumpHeadSize s ≡ 397
-  unfolding dumpHeadSize
+  size-lf : getD s 396 0 ≡ lf → undumpHeadSize s ≡ 397
+  unfolding undumpHeadSize
   size-lf e = rw e
 
-  size-more : eqb (getD s 396 0) lf ≡ false → dumpHeadSize s ≡ 398
-  unfolding dumpHeadSize
+  size-more : eqb (getD s 396 0) lf ≡ false → undumpHeadSize s ≡ 398
+  unfolding undumpHeadSize
   size-more e = rw e
 
   taken : (k : ℕ) → 397 ≤ k → begins (drop 19 (take k s)) closing ≡ begins (drop 19 s) closing → readDumpHeaderOf (take k s) ≡ readDumpHeaderOf s
@@ -105,7 +105,7 @@ module _ (s : List ℕ) where
         e,
       )
 
-  pub undump-head-near : readDumpHeaderOf (take (dumpHeadSize s) s) ≡ readDumpHeaderOf s
+  pub undump-head-near : readDumpHeaderOf (take (undumpHeadSize s) s) ≡ readDumpHeaderOf s
   undump-head-near =
       either (eqb (getD s 396 0) lf)
       (λ e.
@@ -148,10 +148,10 @@ module _ (s : List ℕ) (n next : ℕ) (e : readDumpHeaderOf s ≡ Header n next
   pub undump-head-good : mastersOk n ≡ true
   undump-head-good = accepted .0
 
-  pub undump-head-size : next ≡ dumpHeadSize s
+  pub undump-head-size : next ≡ undumpHeadSize s
   undump-head-size = go (accepted .1)
     where
-      go : ((begins (drop 18 s) closing ≡ true) × (next ≡ 397)) ⊎ ((begins (drop 19 s) closing ≡ true) × (next ≡ 398)) → next ≡ dumpHeadSize s
+      go : ((begins (drop 18 s) closing ≡ true) × (next ≡ 397)) ⊎ ((begins (drop 19 s) closing ≡ true) × (next ≡ 398)) → next ≡ undumpHeadSize s
       go (inl h) = h .1 ∙ sym (size-lf s (closing-at s 18 378 (h .0) (omega arith) ∙ closing-last))
       go (inr h) =
           h .1 ∙ sym (size-more s (ne-eqb (getD s 396 0) lf (λ f. omega (arith, f, closing-at s 19 377 (h .0) (omega arith), closing-before))))

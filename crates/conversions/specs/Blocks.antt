@@ -3,7 +3,7 @@
 --   StepEnds a b       == a step ends between a and b, whatever comes after b
 --   BetweenSteps a b   == a block may be cut between a and b
 --   dumpBlockOf, dumpBlockLeft, undumpBlockOf, undumpBlockLeft == the answers of the calls that take one block, and the buffer afterwards
-use Prim.Native.Nat.{ℕ, _<_}
+use Prim.Native.Nat.{ℕ}
 use mathlib.Core.Path.{_≡_}
 use mathlib.Core.Bool.{Bool, cond}
 use mathlib.Core.List.{List, [], _∷_, _++_}
@@ -11,7 +11,7 @@ use lib.Dec.{ltb}
 use lib.ListN.{length, getD}
 use Rattle.formats.specs.Digits.{lf}
 use Rattle.streams.specs.declared.Flow.the-variants.{GoesOn, Stopped, Short, Unformed}
-use Rattle.streams.specs.Streams.{Turn, Stretch, on, done, stretch}
+use Rattle.streams.specs.Streams.{Stretch, on, done, stretch}
 use Rattle.streams.specs.Blocks.{roomFor, leftBy}
 use Rattle.waves.specs.Steps.{hash}
 use Rattle.waves.specs.Reading.{stepText, mostBytes}

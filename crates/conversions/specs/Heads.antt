@@ -1,13 +1,13 @@
 -- The header, as the calls of the two converting programs take it: 9, or what it comes to.
 --
---   dumpHeadSize s     == the bytes that vcd2trace reads before it tells what header it has
+--   undumpHeadSize s     == the bytes that vcd2trace reads before it tells what header it has
 --   dumpHeaded h, undumpHeaded h == what a header comes to: the other file's header and the start, or the line of its refusal
 --   dumpHeadOf, dumpHeadLeft, undumpHeadOf, undumpHeadLeft == the answers of the calls that take a header, and the buffer afterwards
 use Prim.Native.Nat.{ℕ, _-_, _+_}
 use mathlib.Core.Bool.{true, cond}
 use mathlib.Core.List.{List}
 use lib.Dec.{eqb}
-use lib.ListN.{length, getD}
+use lib.ListN.{getD}
 use Rattle.formats.specs.declared.Word.the-variants.{Trace}
 use Rattle.formats.specs.declared.HeaderRead.{HeaderRead}
 use Rattle.formats.specs.declared.HeaderRead.the-variants as head
@@ -16,7 +16,7 @@ use Rattle.formats.specs.Headers.{header, readHeaderOf}
 use Rattle.formats.specs.Report.{refusedLine}
 use Rattle.streams.specs.Streams.{Stretch, on, done}
 use Rattle.streams.specs.Blocks.{leftBy}
-use Rattle.waves.specs.Header.{opening, closing, dumpHeader, readDumpHeaderOf}
+use Rattle.waves.specs.Header.{dumpHeader, readDumpHeaderOf}
 use Rattle.conversions.specs.declared.Position.{Position}
 use Rattle.conversions.specs.declared.Converted.{Converted}
 use Rattle.conversions.specs.Positions.{startAt}
@@ -28,8 +28,8 @@ use Rattle.conversions.specs.Blocks.{convertedIn}
 abbrev pub shortHeader : ℕ
 shortHeader = 397
 
-unfoldable pub dumpHeadSize : List ℕ → ℕ
-dumpHeadSize s = cond (eqb (getD s (shortHeader - 1) 0) lf) shortHeader (shortHeader + 1)
+unfoldable pub undumpHeadSize : List ℕ → ℕ
+undumpHeadSize s = cond (eqb (getD s (shortHeader - 1) 0) lf) shortHeader (shortHeader + 1)
 
 -- the room for the longest header of a dump, and for one of a trace; a refusal line has room there too
 abbrev pub dumpHeadRoom : ℕ

@@ -23,7 +23,7 @@ use Rattle.conversions.specs.declared.Position.{Position}
 use Rattle.conversions.specs.Positions.{startAt, positionFormed}
 use Rattle.conversions.specs.Undumping.{firstStep, undumpTurn, undumpProgram}
 use Rattle.conversions.specs.Blocks.{BetweenSteps, undumpStretch, undumpBlockOf, undumpBlockLeft}
-use Rattle.conversions.specs.Heads.{dumpHeadSize, undumpHeadRoom, undumpHeadOf, undumpHeadLeft}
+use Rattle.conversions.specs.Heads.{undumpHeadSize, undumpHeadRoom, undumpHeadOf, undumpHeadLeft}
 
 abbrev pub undumpRun : HeaderRead → List (List ℕ) → List ℕ → List ℕ
 undumpRun (head.Header n next) blocks last = header Trace n ++ inBlocks undumpTurn (startAt n firstStep) blocks last
@@ -34,8 +34,8 @@ undumpRun (head.Refused r) blocks last = refusedLine 1 r
 abbrev pub UndumpAsRun : Type 0
 UndumpAsRun =
     (s : List ℕ) (blocks : List (List ℕ)) (last : List ℕ)
-    → drop (dumpHeadSize s) s ≡ joined blocks last → AllCut BetweenSteps blocks last
-    → undumpProgram s ≡ undumpRun (readDumpHeaderOf (take (dumpHeadSize s) s)) blocks last
+    → drop (undumpHeadSize s) s ≡ joined blocks last → AllCut BetweenSteps blocks last
+    → undumpProgram s ≡ undumpRun (readDumpHeaderOf (take (undumpHeadSize s) s)) blocks last
 
 -- "State records added later get such a condition in docs/, met by every state a run reaches": no block of a run meets 10
 abbrev pub UndumpStaysFormed : Type 0

@@ -2,7 +2,7 @@
 --
 --   undumpTurn p rest  == one step: it is read, and its trace line is written
 --   undumpProgram s    == all that the program writes for the input s
-use Prim.Native.Nat.{ℕ, suc, _+_}
+use Prim.Native.Nat.{ℕ, suc}
 use mathlib.Core.List.{List, [], _++_}
 use lib.ListN.{length, take, drop}
 use Rattle.formats.specs.declared.Word.the-variants.{Trace}

@@ -1,8 +1,8 @@
 -- The promises over whole waveform files: what trace2vcd and vcd2trace write for every input whatever, and that each undoes the other.
 --
 -- An input of vcd2trace has exactly one of three forms, as the inputs of the other programs have: its header is refused; or good steps stand
--- after it and the step after them is refused; or it is a whole dump. proofs/Waves.antt has the proof of each promise, under the same name in
--- lower case with hyphens.
+-- after it and the step after them is refused; or it is a whole dump. Each promise is proved under its name in lower case with hyphens: the one
+-- form in proofs/DumpForms.antt, the numbers in DumpNumbers, what reading tells of a refusal in DumpsRefused, the others in Waves.
 --
 --   lastOf prev cs     == the last of the cycles cs, and prev where there is none
 --   Behind cs rest     == the last of the steps of cs, if there is one, ends before the rest
@@ -59,7 +59,7 @@ HasDump s (whole n cs) = DumpBegins s n cs []
 abbrev pub EveryDumpHasOneForm : Type 0
 EveryDumpHasOneForm = (s : List ℕ) → (f : Form Cycle) × HasDump s f × ((g : Form Cycle) → HasDump s g → g ≡ f)
 
--- A header: 12, 1. A step: 1, 13, 8, 14, 3, 4, 5, 6, 7, of which 1 is given for no header that was accepted.
+-- A header: 12, 1. A step: 1, 13, 8, 14, 3, 4, 5, 6, 7, of which 1 cannot follow a header that was accepted.
 pub record DumpsRefusedByNumber : Type 0 where
   pub of-a-header : (s : List ℕ) (r : Refusal) → HasDump s (noHeader r) → (numberOf r ≡ 12) ⊎ (numberOf r ≡ 1)
   pub of-a-step : (s : List ℕ) (n : ℕ) (cs : List Cycle) (r : Refusal) → HasDump s (cutAfter n cs r)

@@ -24,7 +24,7 @@ abbrev pub numberOf : Refusal → ℕ
 numberOf refusal.Masters = 1
 -- the header has another shape or the other word, or the input is empty
 numberOf refusal.Header = 2
--- the position is beyond the input, a line is cut, or a tab or LF is not in its place
+-- the position is beyond the input, a line is cut, or a tab or LF is not in its place; a step of a dump is not of its form
 numberOf refusal.Shape = 3
 -- a character its field doesn't allow, or a number above its field's limit
 numberOf refusal.Value = 4
@@ -34,7 +34,7 @@ numberOf refusal.NotBuilt = 5
 numberOf refusal.Absent = 6
 -- HMASTER not below n
 numberOf refusal.Owner = 7
--- the count is 1,000,000 already
+-- the count is 1,000,000 already; the time of a step is
 numberOf refusal.Full = 8
 -- a lent buffer is too short
 numberOf refusal.Short = 9

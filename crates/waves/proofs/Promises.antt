@@ -4,7 +4,7 @@ use Rattle.waves.proofs.StepTexts.{step-short}
 use Rattle.waves.proofs.Steps.{step-reads, step-writes}
 use Rattle.waves.proofs.Header.{header-reads, header-writes}
 use Rattle.waves.proofs.Files.{dump-reads, dump-writes}
-use Rattle.waves.proofs.Writers.{writes-all, written-reads, read-writes}
+use Rattle.waves.proofs.Writers.{writes-all, refused-kept, written-reads, read-writes}
 
 pub steps-are-short : promise.StepsAreShort
 steps-are-short = step-short
@@ -29,6 +29,9 @@ read-dump-writes s n cs e = let w = dump-writes s n cs e in (w .masters, w .vali
 
 pub writes-the-valid : promise.WritesTheValid
 writes-the-valid = writes-all
+
+pub buffers-kept : promise.BuffersKept
+buffers-kept = refused-kept
 
 pub written-is-read : promise.WrittenIsRead
 written-is-read = written-reads

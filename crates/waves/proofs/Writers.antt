@@ -2,7 +2,8 @@
 --
 --   header-passes, header-fits == a header is written exactly where its tests pass
 --   step-passes, step-fits == and a step
---   writes-all, written-reads, read-writes == the three promises of the writers
+--   refused-kept       == a refused writer leaves the buffer as it was
+--   writes-all, written-reads, read-writes == the other promises of the writers
 use Prim.Native.Nat.{ℕ, _+_, _≤_, _<_}
 use mathlib.Core.Path.{_≡_, refl, sym, _∙_, ap}
 use mathlib.Core.List.{List, _++_}
@@ -31,7 +32,7 @@ use Rattle.formats.proofs.Limits.{range-ok, ok-range}
 use Rattle.formats.proofs.Report.{refusal-some}
 use Rattle.waves.specs.Header.{dumpHeader, writeDumpHeaderOf, dumpHeaderWritten}
 use Rattle.waves.specs.Steps.{dumpStep, inTime, writeStepOf, stepWritten}
-use Rattle.waves.specs.Promises.{WritesTheValid, WrittenIsRead, ReadIsWritten}
+use Rattle.waves.specs.Promises.{WritesTheValid, BuffersKept, WrittenIsRead, ReadIsWritten}
 use Rattle.waves.proofs.Header.{header-reads, header-writes}
 use Rattle.waves.proofs.Steps.{step-reads, step-writes}
 
@@ -146,4 +147,17 @@ read-writes =
           step-fits n t prev c (length buffer) (w .masters) (w .time) (w .valid) fits ∙ ap Bytes size in
           let bytes : dumpStep prev t c ≡ take k (drop p s) = w .bytes ∙ ap (λ i. take i (drop p s)) size in
           (a, step-done n buffer k t prev c a .1 ∙ ap (λ l. l ++ drop k buffer) bytes);
+    }
+
+-- no bytes were written
+left-kept : (a : Written) (bytes buffer : List ℕ) → (writtenAnswer a ≡ 0 → ⊥) → left a bytes buffer ≡ buffer
+left-kept (Bytes k) bytes buffer h = absurd (h refl)
+left-kept (Refused r) bytes buffer h = refl
+
+pub refused-kept : BuffersKept
+unfolding dumpHeaderWritten stepWritten
+refused-kept =
+    record {
+      header = λ n buffer h. left-kept (writeDumpHeaderOf n (length buffer)) (dumpHeader n) buffer h;
+      step = λ n t prev c buffer h. left-kept (writeStepOf n t prev c (length buffer)) (dumpStep prev t c) buffer h;
     }

@@ -3,7 +3,7 @@
 --   dump n cs          == the bytes of the dump of the cycles cs
 --   readDump s         == what reading a dump from its start to its end finds
 --   lineAt s p         == the line of the file in which the position p stands, the first being 1
-use Prim.Native.Nat.{ℕ, zero, suc, _+_}
+use Prim.Native.Nat.{ℕ, zero, suc}
 use mathlib.Core.Bool.{cond}
 use mathlib.Core.List.{List, [], _∷_, _++_}
 use lib.Dec.{eqb}

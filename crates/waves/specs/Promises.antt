@@ -74,6 +74,12 @@ pub record WritesTheValid : Type 0 where
   pub step : (n t : ℕ) (prev c : Cycle) (room : ℕ)
       → (writtenAnswer (writeStepOf n t prev c room) ≡ 0) ↔ (InRange n × (t < mostCycles) × ValidCycle n c × (length (dumpStep prev t c) ≤ room))
 
+-- "no lent byte changes": what a refused writer leaves is the buffer as it was.
+pub record BuffersKept : Type 0 where
+  pub header : (n : ℕ) (buffer : List ℕ) → (writtenAnswer (writeDumpHeaderOf n (length buffer)) ≡ 0 → ⊥) → dumpHeaderWritten n buffer ≡ buffer
+  pub step : (n t : ℕ) (prev c : Cycle) (buffer : List ℕ) → (writtenAnswer (writeStepOf n t prev c (length buffer)) ≡ 0 → ⊥)
+      → stepWritten n t prev c buffer ≡ buffer
+
 -- What a writer wrote into a lent buffer is read there; what was read is written, where there is room.
 pub record WrittenIsRead : Type 0 where
   pub header : (n k : ℕ) (buffer : List ℕ) → writeDumpHeaderOf n (length buffer) ≡ Bytes k

@@ -1,6 +1,6 @@
 -- A step of a dump as it is read: 1, 13, 8, 14, 3, 4, 5, 6, 7. Each test is of the whole step.
 --
---   stepText s         == the step that s begins with: up to the next line that begins with `#`, or the end of the input
+--   stepText s         == the step that s begins with: up to the next line that begins with `#`, or the end of the input, and at most 105 bytes
 --   wrongTime t s      == 13: its time is another number than t
 --   fullTime t s       == 8: its time is t, and that is 1,000,000
 --   unknownIn s        == 14: a value of a variable that is none of the eleven
@@ -11,7 +11,7 @@
 --   readStepOf n t prev s p == the answer of reading at p the step of cycle t, after the cycle prev
 use Prim.Native.Nat.{ℕ, zero, suc, _+_, _-_, _*_, _^_}
 use mathlib.Core.Bool.{Bool, true, false, not, _&&_, _||_, cond}
-use mathlib.Core.List.{List, [], _∷_, _++_}
+use mathlib.Core.List.{List, [], _∷_}
 use lib.Dec.{eqb, ltb, leb}
 use lib.ListN.{length, getD, drop}
 use Rattle.rules.specs.declared.Refusal.the-variants as refusal

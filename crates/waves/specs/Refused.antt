@@ -44,7 +44,7 @@ later text = stepIn 3 4 second text 0
 abbrev opens : String → Call
 opens text = stepIn 3 0 noCycle text 0
 
--- a cycle of two columns of `second` moved
+-- `second` with four of its columns given
 abbrev with : ℕ → ℕ → ℕ → ℕ → Cycle
 with hbusreq htrans hgrant hmaster =
     record {
@@ -78,6 +78,7 @@ asked =
     -- 8: whatever follows it
     ∷ gives 8 (stepIn 3 1000000 second "#1000000\n" 0)
     ∷ gives 8 (stepIn 3 1000000 second "#1000000" 0)
+    ∷ gives 8 (stepIn 3 2000000 second "#2000000\n" 0)
     ∷ gives 8 (stepIn 3 1000000 second "#1000000\n1,\n" 0)
     ∷ gives 8 (stepIn 3 1000000 second "#1000000x" 0)
     -- 14: a code that is none of the eleven, of a scalar, a vector or a real number; in any line, before 3 and 4
@@ -95,6 +96,8 @@ asked =
     ∷ gives 14 (later "#4\nR1.5 v\n")
     ∷ gives 14 (later "#4\nhello\nb11 $\nb1 ~\n")
     ∷ gives 14 (later "#4x\n0z\n")
+    -- what follows the first space is the code, also in the place of a bit
+    ∷ gives 14 (later "#4\nb 1 $\n")
     -- 3: the time's line: no digit, a leading zero, something after it, no LF; no `#`
     ∷ gives 3 (later "#\n")
     ∷ gives 3 (later "#x\n")
@@ -145,6 +148,8 @@ asked =
     ∷ gives 4 (later "#4\nx#\n")
     ∷ gives 4 (later "#4\nb01 $\nb000z '\n")
     ∷ gives 4 (later "#4\nb000000000000x000 !\n")
+    ∷ gives 4 (later "#4\nb1  $\n")
+    ∷ gives 4 (later "#4\n #\n")
     -- 5, 6, 7: of the cycle that results
     ∷ gives 5 (later "#4\nb01 $\n")
     ∷ gives 5 (later "#4\nb010 %\n")
@@ -153,8 +158,13 @@ asked =
     ∷ gives 6 (later "#4\nb0000000000001000 &\nb0011 '\n")
     ∷ gives 7 (later "#4\nb0011 '\n")
     ∷ gives 7 (stepIn 3 4 (with 6 2 2 3) "#4\n" 0)
-    -- 4 where the cycle before is none, and the step leaves it so
+    -- a cycle before that is not valid, and the step leaves it so; HMASTER above 15 is 4, as no line of a trace has it
     ∷ gives 4 (stepIn 3 4 (with 65536 2 2 1) "#4\n" 0)
+    ∷ gives 5 (stepIn 3 4 (with 6 1 2 1) "#4\n" 0)
+    ∷ gives 6 (stepIn 3 4 (with 8 2 2 1) "#4\n" 0)
+    ∷ gives 4 (stepIn 3 4 (with 6 2 2 16) "#4\n" 0)
+    -- a number above the width of a column stands for a wrong character: the one repeats the other
+    ∷ gives 3 (stepIn 3 4 (with 65536 2 2 1) "#4\nbx000000000000000 !\n" 0)
     -- a header: 12 before 1
     ∷ gives 12 (headerIn "")
     ∷ gives 12 (headerIn "trace\t1\t3\n")

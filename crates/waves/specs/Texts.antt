@@ -35,7 +35,7 @@ third =
       outputs = record { hgrant = 0x0002; hmaster = 1; hmastlock = 0; decide = 0; granted = 0; busreq = 1 };
     }
 
--- each column has another value than its neighbours, and every one differs from `first`
+-- every column differs from `first`
 abbrev pub every : Cycle
 every =
     record {
