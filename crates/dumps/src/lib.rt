@@ -6,6 +6,7 @@ use formats::Written;
 use rules::Check;
 use rules::Cycle;
 use rules::Refusal;
+pub use times::six_digits;
 ghost use mathlib.Core.Path.{_≡_};
 ghost use mathlib.Core.List.{_∷_, _++_};
 ghost use Prim.Native.Nat.{_+_, _≤_, _<_};

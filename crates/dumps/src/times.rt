@@ -25,7 +25,7 @@ fn digits(a: u64, b: u64) -> u64
 }
 
 // The line of a time of six digits as one number: with the bytes round them they are eight.
-fn six_digits(t: u64) -> u64
+pub fn six_digits(t: u64) -> u64
     requires { ⌜ (100000 ≤ t) × (t < mostCycles) ⌝ }
     ensures { λ r. ⌜ lowFirst 8 r ≡ timeLine t ⌝ }
 {

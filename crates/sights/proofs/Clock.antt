@@ -1,9 +1,10 @@
--- The line of a time, read digit by digit.
+-- The line of a time, read digit by digit, or seen as one number.
 --
 --   first-seen      == a first digit
 --   Counting s v i  == `#` and the digits of the number v stand before i
 --   counting-start, counting-on == such a position after the first digit, and one further
 --   timed, untimed  == the ends: the line is there, or not
+--   six-seen, none-seen == the same of a time of six digits
 use Prim.Native.Nat.{ℕ, zero, suc, _+_, _-_, _*_, _/_, _%_, _^_, _≤_, _<_}
 use mathlib.Core.Path.{_≡_, sym, ap, _∙_}
 use mathlib.Core.Bool.{true, _&&_, cond}
@@ -17,8 +18,11 @@ use lib.ListN.{length, getD, take, drop, take-append-drop, length-drop}
 use lib.Seq.{take-suc, drop-cons, drop-drop, getD-drop, append-snoc}
 use Rattle.rules.proofs.Choice.{either, and-left, and-right}
 use Rattle.formats.specs.Digits.{decimalBefore}
+use Rattle.words.specs.Words.{lowFirst, numberLow}
+use Rattle.words.proofs.Words.{Bytes, slots-take, bytes-of-number}
 use Rattle.waves.specs.Steps.{timeLine}
 use Rattle.sights.specs.Sights.{First, Timed}
+use Rattle.sights.proofs.Here.{part-here}
 
 pub first-seen : (s : List ℕ) (d : ℕ) → (d + 48) % 2 ^ 32 ≡ getD s 1 0 → (eqb (getD s 0 0) 35 && leb d 9) ≡ true → First s d
 first-seen s d e t =
@@ -118,3 +122,16 @@ module _ (s : List ℕ) (room : 8 ≤ length s) where
         let same = eqb-true _ _ (and-right (eqb (getD s i 0) 10) (eqb v t) b) in
         rw (f, b) (record { line = λ h. line-there t same ends; near = omega arith }))
         (λ b. rw (f, b) (untimed t s))
+
+-- the line of six digits, as one number
+pub six-seen : (t w r : ℕ) (s : List ℕ) → Bytes s → 8 ≤ length s → w ≡ numberLow 8 s 0 → lowFirst 8 r ≡ timeLine t → w ≡ r → Timed t s 8
+six-seen t w r s bytes room read text same =
+    record {
+      line = λ h.
+          part-here s 0 8 (timeLine t)
+          (slots-take s 8 0 room ∙ sym (bytes-of-number 8 s 0 bytes) ∙ ap (lowFirst 8) (sym read ∙ same) ∙ text);
+      near = omega arith;
+    }
+
+pub none-seen : (t : ℕ) (s : List ℕ) → Timed t s 0
+none-seen t s = record { line = λ h. absurd (omega arith); near = omega arith }

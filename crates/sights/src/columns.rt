@@ -19,20 +19,21 @@ pub fn flag(code: u8, v: u32, s: &[u8], q: usize, lines: u32) -> Passed
     requires { ⌜ (q + 4 ≤ length (now s)) × (lines ≤ 16) ⌝ }
     ensures { λ r. ⌜ Passes 1 code v (now (s .entry)) q lines (r .value) (r .next) (r .lines) ⌝ }
 {
-    let other = 1 - v % 2;
-    let w = words::four(&s[q..]);
-    if w % 0x1000000 == 0xa0030 + other + code as u32 * 256 {
-        Passed {
-            value: other,
-            next: q + 3,
-            lines: lines + 1,
+    if s[q + 1] == code {
+        let other = 1 - v % 2;
+        let w = words::four(&s[q..]);
+        if w % 0x1000000 == 0xa0030 + other + code as u32 * 256 {
+            return Passed {
+                value: other,
+                next: q + 3,
+                lines: lines + 1,
+            };
         }
-    } else {
-        Passed {
-            value: v,
-            next: q,
-            lines,
-        }
+    }
+    Passed {
+        value: v,
+        next: q,
+        lines,
     }
 }
 

@@ -1,9 +1,10 @@
 // The line of a step's time.
 ghost use mathlib.Core.Path.{_≡_};
 ghost use mathlib.Core.Bool.{_&&_, cond};
-ghost use Prim.Native.Nat.{_+_, _≤_};
+ghost use Prim.Native.Nat.{_+_, _≤_, _<_};
 ghost use lib.Dec.{eqb};
 ghost use lib.ListN.{length};
+ghost use Rattle.rules.specs.Codes.{mostCycles};
 ghost use Rattle.sights.specs.Sights.{First, Timed};
 
 // The position after the byte b at i, if it ends the line of the number v, which has to be the time t; 0 if not.
@@ -23,8 +24,8 @@ fn first_digit(s: &[u8]) -> u32
     if (s[0] == 35) & (d <= 9) { d } else { 0 }
 }
 
-// The position after the line of the time t, if s begins with it; 0 if not.
-pub fn time_at(t: u32, s: &[u8]) -> usize
+// The position after the line of the time t, if s begins with it; 0 if not: its digits are read one by one.
+fn read_time(t: u32, s: &[u8]) -> usize
     requires { ⌜ 8 ≤ length (now s) ⌝ }
     ensures { λ r. ⌜ Timed t (now (s .entry)) r ⌝ }
 {
@@ -43,4 +44,26 @@ pub fn time_at(t: u32, s: &[u8]) -> usize
         i += 1;
     }
     0
+}
+
+// The same of a time of six digits: its line is eight bytes.
+fn six_here(t: u32, s: &[u8]) -> usize
+    requires { ⌜ (8 ≤ length (now s)) × (100000 ≤ t) × (t < mostCycles) ⌝ }
+    ensures { λ r. ⌜ Timed t (now (s .entry)) r ⌝ }
+{
+    let text = dumps::six_digits(t as u64);
+    let w = words::eight(s);
+    if w == text { 8 } else { 0 }
+}
+
+// The same of any time.
+pub fn time_at(t: u32, s: &[u8]) -> usize
+    requires { ⌜ (8 ≤ length (now s)) × (t < mostCycles) ⌝ }
+    ensures { λ r. ⌜ Timed t (now (s .entry)) r ⌝ }
+{
+    if 100000 <= t {
+        six_here(t, s)
+    } else {
+        read_time(t, s)
+    }
 }

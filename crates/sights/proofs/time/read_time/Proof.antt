@@ -1,10 +1,10 @@
--- `time_at` meets its contract. Measure: the places where a digit may still stand.
+-- `read_time` meets its contract. Measure: the places where a digit may still stand.
 use Prim.Native.Nat.{_-_}
 use native.Mathlib.Omega.{arith}
 use borrow.Author.Needs.{needs}
 use Rattle.sights.proofs.Clock.{Counting, counting-start, counting-on, timed, untimed}
-use Rattle.sights.proofs.time.time_at.Statement.{statement}
-use Rattle.sights.proofs.time.time_at.Tie as tie
+use Rattle.sights.proofs.time.read_time.Statement.{statement}
+use Rattle.sights.proofs.time.read_time.Tie as tie
 
 abbrev Inv-loop : tie.InvT-loop
 Inv-loop t s v₀ i₀ v i = Counting s v i
@@ -54,8 +54,8 @@ loop-again c = search counting-on
 returns-3 : tie.Need-returns-3 Inv-loop μ-loop
 returns-3 c = untimed _ _
 
-pub time-at-spec : {M : Type 1} → statement M
-time-at-spec =
+pub read-time-spec : {M : Type 1} → statement M
+read-time-spec =
     tie.close
     (tie.spec
     Inv-loop
