@@ -143,11 +143,10 @@ module _ (n : ℕ) (ok : mastersOk n ≡ true) where
         request = omega (arith, b1 .1);
       }))
 
-four-sides : (a b c d : Bool) → (a && b && c && d) ≡ true → (a ≡ true) × ((b ≡ true) × ((c ≡ true) × (d ≡ true)))
-four-sides true true true d t = (refl, (refl, (refl, t)))
-four-sides true true false d t = absurd (false≢true t)
-four-sides true false c d t = absurd (false≢true t)
-four-sides false b c d t = absurd (false≢true t)
+three-sides : (a b c : Bool) → (a && b && c) ≡ true → (a ≡ true) × ((b ≡ true) × (c ≡ true))
+three-sides true true c t = (refl, (refl, t))
+three-sides true false c t = absurd (false≢true t)
+three-sides false b c t = absurd (false≢true t)
 
 counted-changed : (vs us : List ℕ) → changed false vs us ≡ counted vs us
 unfolding changed
@@ -192,17 +191,17 @@ module _ (n t : ℕ) (prev : Cycle) (s : List ℕ) (ok : mastersOk n ≡ true) (
     abbrev cycle : Cycle
     cycle = record { inputs = x; outputs = y }
 
-    pub step-seen : (ltb 0 t && ltb 0 at && valid && eqb (getD s q 0) 35) ≡ true
+    pub step-seen : (at ≡ 0 → ⊥) → (ltb 0 t && valid && eqb (getD s q 0) 35) ≡ true
         → (readStepOf n t prev s 0 ≡ Line cycle q) × (linesIn (take q s) ≡ m) × (q ≤ length s)
-    step-seen g =
-        let f = four-sides (ltb 0 t) (ltb 0 at) valid (eqb (getD s q 0) 35) g in
+    step-seen timed g =
+        let f = three-sides (ltb 0 t) valid (eqb (getD s q 0) 35) g in
         let some = ltb-true 0 t (f .0) in
         let lines : drop at s ≡ changes false variables (cycleValues prev) (cycleValues cycle) ++ drop q s = a .bytes _ _ _ (drop q s) (b .bytes) in
         let step : s ≡ timeLine t ++ (changes false variables (cycleValues prev) (cycleValues cycle) ++ drop q s) =
-        time .line (ltb-true 0 at (f .1 .0)) ∙ ap (λ k. timeLine t ++ k) lines in
+        time .line (omega arith) ∙ ap (λ k. timeLine t ++ k) lines in
         let inside : q ≤ length s = omega (arith, time .near, a .near, b .near) in
-        let ends = eqb-true (getD s q 0) 35 (f .1 .1 .1) in
-        let good = ev (f .1 .1 .0) in (
+        let ends = eqb-true (getD s q 0) 35 (f .1 .1) in
+        let good = ev (f .1 .0) in (
           step-reads n t prev cycle s q ok some early good inside ends step,
           step-lines n t prev cycle s q ok some early good inside ends step m (omega (arith, a .lines, b .lines)),
           inside,

@@ -120,6 +120,14 @@ pub fn see_step(n: u32, t: u32, prev: Cycle, s: &[u8]) -> Seen
         };
     }
     let at = time::time_at(t, s);
+    if at == 0 {
+        return Seen {
+            good: false,
+            cycle: prev,
+            next: 0,
+            lines: 0,
+        };
+    }
     let a = see_inputs(prev.inputs, s, at);
     let b = see_outputs(prev.outputs, s, a.next, a.lines);
     let inputs = a.inputs;
@@ -128,7 +136,7 @@ pub fn see_step(n: u32, t: u32, prev: Cycle, s: &[u8]) -> Seen
     let next = b.next;
     let valid = passes(n, cycle);
     Seen {
-        good: (0 < t) & (0 < at) & valid & (s[next] == 35),
+        good: (0 < t) & valid & (s[next] == 35),
         cycle,
         next,
         lines: b.lines,
