@@ -24,17 +24,16 @@ struct step {
 /* the end of a vector's line, after a byte of its value */
 #define END(code) (' ' | (code) << 8 | '\n' << 16)
 
-/* The number in eight bits; what is no bit is bad. */
-INLINE u32 eight_bits(struct step *s, const u8 *at) {
-    u64 text = load8(at) ^ EACH('0');
-    s->bad |= (text & ~EACH(1)) != 0;
-    return (u32)(text * 0x8040201008040201ul >> 56);
-}
+/* The number in eight bits. */
+INLINE u32 eight_bits(u64 text) { return (u32)(text * 0x8040201008040201ul >> 56); }
 
 /* Each reads the change of a variable, if it stands here: the line of another begins or ends otherwise. */
 INLINE void take_mask(struct step *s, u32 code, u32 place, u32 absent) {
     if (s->at[0] != 'b' || load4(s->at + 16) >> 8 != END(code)) return;
-    u32 value = eight_bits(s, s->at + 1) << 8 | eight_bits(s, s->at + 9), text = hex4(value);
+    u64 high = load8(s->at + 1) ^ EACH('0'), low = load8(s->at + 9) ^ EACH('0');
+    /* a line may end here, and another one there */
+    if (RARELY(((high | low) & ~EACH(1)) != 0)) return;
+    u32 value = eight_bits(high) << 8 | eight_bits(low), text = hex4(value);
     s->bad |= (value & absent) | (text == load4(s->line + place));
     store4(s->line + place, text);
     s->at += 20;
