@@ -2,7 +2,7 @@
 --
 --   answered       == what a call answered, sorted
 --   roomy          == what was read has room for what it comes to
---   held           == the program's buffers; still-held: buffers of the same sizes serve for the next block
+--   still-held     == buffers of the same sizes serve for the next block
 --   cut-inside, cut-kept == what is taken of n bytes, and what is kept
 --   kept-went      == a read, of which some bytes are taken and the rest is kept: the program went on, or it ends
 --   formed-on      == a program that went on stays well formed, and is nearer to its end
@@ -74,9 +74,6 @@ module _ (p : Position) (block : List ℕ) where
   pub roomy : (n out : ℕ) (buffer : List ℕ) → positionFormed p ≡ true → Held (length buffer) out → block ≡ take n buffer
       → (positionFormed p ≡ true) × (undumpRoom block ≤ out)
   roomy n out buffer h lent is = (h, rw is (onwards.fits n buffer 3 31 out (omega arith) (lent .lent)))
-
-pub held : Held 32768 338613
-held = record { step = omega arith; lent = record { line = omega arith; room = omega arith } }
 
 pub still-held : {block out block' out' : ℕ} → Held block out → block' ≡ block → out' ≡ out → Held block' out'
 still-held h e f = rw (e, f) h

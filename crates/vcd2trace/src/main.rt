@@ -137,13 +137,21 @@ fn start(n: usize, block: &mut [u8], out: &mut [u8]) -> Ending
     t.ending
 }
 
-// 32,768 bytes at a time, and room for a trace line for each three of them and for one line more.
+// The same, with room for a trace line for each three bytes of a block and for one line more.
+fn begin(n: usize, block: &mut [u8]) -> Ending
+    requires { ⌜ Held (length (now block)) 338613 ⌝ }
+    ensures { λ r. ⌜ Begins noBreach undumpTurn Parted begunWith r (readDumpHeaderOf (front n (now (block .entry)))) ⌝ }
+{
+    let mut out = [0u8; 338613];
+    start(n, block, &mut out)
+}
+
+// 32,768 bytes at a time.
 fn main() {
     let mut block = [0u8; 32768];
-    let mut out = [0u8; 338613];
     let ending = match console::read_head(397, &mut block) {
-        Fed::More(n) => start(n, &mut block, &mut out),
-        Fed::Last(n) => start(n, &mut block, &mut out),
+        Fed::More(n) => begin(n, &mut block),
+        Fed::Last(n) => begin(n, &mut block),
         Fed::Broken => Ending::Unread,
     };
     console::tell(ending);
