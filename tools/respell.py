@@ -35,7 +35,7 @@ def snake(name):
     if name in OTHER:
         return OTHER[name]
     name = name.replace("-", "_")
-    name = re.sub(r"(?<=[a-z0-9])([A-Z])", lambda m: "_" + m.group(1).lower(), name)
+    name = re.sub(r"(?<=[a-z0-9])(?=[A-Z])|(?<=[A-Z])(?=[A-Z][a-z])", "_", name)
     return name.lower() if re.search(r"[A-Z]", name) else name
 
 

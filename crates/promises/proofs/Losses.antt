@@ -29,7 +29,7 @@ use Rattle.rules.proofs.Taken.{decide}
 use Rattle.rules.proofs.Total.{good_masks}
 use Rattle.rulebook.specs.Columns.{decided}
 use Rattle.rulebook.specs.Traces.{comparing, completes}
-use Rattle.rulebook.specs.Rules.{loses, lost_in_arow, limit, g11, g12}
+use Rattle.rulebook.specs.Rules.{loses, lost_in_a_row, limit, g11, g12}
 use Rattle.rulebook.proofs.Counts.{some_none}
 use Rattle.rules.specs.declared.Cycle.{Cycle}
 use Rattle.promises.proofs.Served.{turns_of, loss_nearer, turns_kept}
@@ -38,8 +38,8 @@ use Rattle.promises.proofs.History.{cycle_of, History, none, then, history_sound
 shown_loses : (i : ℕ) (q s : State) (y x : Inputs) → loses i (cycle_of q y) (cycle_of s x) ≡ (high y.hbusreq i && not (eqb s.g i))
 shown_loses i q s y x = rw (shown_grant s x i)
 
-absent_loses : (n : ℕ) {s : State} {h : List Cycle} → History n s h → (x : Inputs) (i : ℕ) → n ≤ i → lost_in_arow i (cycle_of s x ∷ h) ≡ 0
-unfolding lost_in_arow
+absent_loses : (n : ℕ) {s : State} {h : List Cycle} → History n s h → (x : Inputs) (i : ℕ) → n ≤ i → lost_in_a_row i (cycle_of s x ∷ h) ≡ 0
+unfolding lost_in_a_row
 absent_loses n (none b) x i l = refl
 absent_loses n (then {s = q} {s' = s} {h = h} y {o = o} d k) x i l =
     let past = absent_loses n d y i l in
@@ -59,8 +59,8 @@ one_decision true true false n l w w' f g a b = omega (arith, f refl refl refl)
 one_decision true false wins n l w w' f g a b = omega arith
 one_decision false asks wins n l w w' f g a b = omega (arith, g refl)
 
-losses_below : (n : ℕ) {s : State} {h : List Cycle} → History n s h → (x : Inputs) (i : ℕ) → i < n → lost_in_arow i (cycle_of s x ∷ h) + turns_of s i < n
-unfolding lost_in_arow
+losses_below : (n : ℕ) {s : State} {h : List Cycle} → History n s h → (x : Inputs) (i : ℕ) → i < n → lost_in_a_row i (cycle_of s x ∷ h) + turns_of s i < n
+unfolding lost_in_a_row
 losses_below n (none {s = s} b) x i hi =
     let e : s.n ≡ n = (history_sound (none b)).masters in
     omega (arith, turns_below s.n s.g i (omega arith))
@@ -68,7 +68,7 @@ losses_below n (then {s = q} {s' = s} {h = h} y {o = o} d k) x i hi =
     let e : q.n ≡ n = (history_sound d).masters in
     let e' : s.n ≡ n = (history_sound (then y d k)).masters in
     rw (shown_loses i q s y x, shown_decided q y)
-    (one_decision (decide q y) (high y.hbusreq i) (eqb s.g i) n (lost_in_arow i (cycle_of q y ∷ h)) (turns_of q i) (turns_of s i)
+    (one_decision (decide q y) (high y.hbusreq i) (eqb s.g i) n (lost_in_a_row i (cycle_of q y ∷ h)) (turns_of q i) (turns_of s i)
     (λ p a w. loss_nearer q y s o k p i (omega arith) a (eqb-false s.g i w))
     (λ p. turns_kept q y s o k p i)
     (omega (arith, turns_below s.n s.g i (omega arith)))
@@ -88,11 +88,11 @@ no_g11 n {s = s} {h = h} d x =
     rw (some_none 16 _ (λ i l. few i))
     (and-false (comparing (λ p t. decided p) (cycle_of s x ∷ h)))
   where
-    few : (i : ℕ) → completes (limit n) (lost_in_arow i (cycle_of s x ∷ h)) ≡ false
+    few : (i : ℕ) → completes (limit n) (lost_in_a_row i (cycle_of s x ∷ h)) ≡ false
     few i =
         order n i
         (λ l. rw (absent_loses n d x i l) (unfold completes in refl))
-        (λ l. incomplete n (lost_in_arow i (cycle_of s x ∷ h)) (omega (arith, losses_below n d x i l)))
+        (λ l. incomplete n (lost_in_a_row i (cycle_of s x ∷ h)) (omega (arith, losses_below n d x i l)))
 
 -- after reset an idle cycle decides
 idle_decides : (i ns r k : Bool) (b : Burst) → (i ≡ true → ns ≡ false)

@@ -18,8 +18,8 @@ use Rattle.rules.proofs.Choice.{either}
 use Rattle.rulebook.specs.declared.Rule.{Rule}
 use Rattle.rulebook.specs.declared.Rule.TheVariants.{A1, A2, A3, A4, A5, A6, A7, A8, A9, G1, G2, G3, G4, G5, G6, G7, G8, G9, G10, G11, G12}
 use Rattle.rulebook.specs.Columns.{decided, handover}
-use Rattle.rulebook.specs.Traces.{comparing, at_first, in_arow, completes, access, opening}
-use Rattle.rulebook.specs.Rules.{locked_incr, waits, g2, g3, loses, lost_in_arow, limit, g11, broken}
+use Rattle.rulebook.specs.Traces.{comparing, at_first, in_a_row, completes, access, opening}
+use Rattle.rulebook.specs.Rules.{locked_incr, waits, g2, g3, loses, lost_in_a_row, limit, g11, broken}
 use Rattle.rulebook.specs.State.{start_judge}
 use Rattle.rulebook.specs.Charges.{list_from, lost_after, next_judge, compares_at, reaches, charges}
 use Rattle.rulebook.specs.Kept.{access_watch, kept_of}
@@ -28,7 +28,7 @@ use Rattle.rulebook.proofs.Counts.{list_at, list_same, some_same, some_limit}
 use Rattle.rulebook.proofs.Watches.{opened_kept, watch_kept, watch_cuts_incr, watch_cuts_fixed}
 
 pub kept_start : (n : ℕ) → kept_of n [] ≡ start_judge n
-unfolding kept_of in_arow access opening access_watch lost_in_arow list_from
+unfolding kept_of in_a_row access opening access_watch lost_in_a_row list_from
 kept_start n = rw (list_same 0 16 (λ i. 0 % limit n) (λ i. 0) (λ i h. zero-mod (limit n)))
 
 -- a judge that has taken a cycle is not at its start
@@ -36,28 +36,28 @@ counted : (p : Cycle) (h : List Cycle) → eqb (length (p ∷ h)) 0 ≡ false
 counted p h = eqb-suc-zero (length h)
 
 -- the kept count of lost decisions of master i
-lost_at : (n : ℕ) (h : List Cycle) (i : ℕ) → i < most_masters → get_or (kept_of n h).lost i 0 ≡ lost_in_arow i h % limit n
+lost_at : (n : ℕ) (h : List Cycle) (i : ℕ) → i < most_masters → get_or (kept_of n h).lost i 0 ≡ lost_in_a_row i h % limit n
 unfolding kept_of
-lost_at n h i below = list_at 16 i (λ k. lost_in_arow k h % limit n) below
+lost_at n h i below = list_at 16 i (λ k. lost_in_a_row k h % limit n) below
 
-lost_kept : (n : ℕ) (h : List Cycle) (c : Cycle) (i : ℕ) → 0 < n → i < most_masters → lost_after (kept_of n h) c i ≡ lost_in_arow i (c ∷ h) % limit n
-unfolding lost_after lost_in_arow kept_of
+lost_kept : (n : ℕ) (h : List Cycle) (c : Cycle) (i : ℕ) → 0 < n → i < most_masters → lost_after (kept_of n h) c i ≡ lost_in_a_row i (c ∷ h) % limit n
+unfolding lost_after lost_in_a_row kept_of
 lost_kept n [] c i pos below = lost_at n [] i below
 lost_kept n (p ∷ h) c i pos below =
     either (decided p)
-    (λ e. simp (e, counted p h, lost_at n (p ∷ h) i below) (longer_row (limit n) (lost_in_arow i (p ∷ h)) (loses i p c) (some_limit n pos)))
+    (λ e. simp (e, counted p h, lost_at n (p ∷ h) i below) (longer_row (limit n) (lost_in_a_row i (p ∷ h)) (loses i p c) (some_limit n pos)))
     (λ e. simp (e, counted p h) (lost_at n (p ∷ h) i below))
 
 pub kept_step : (n : ℕ) (h : List Cycle) (c : Cycle) → 0 < n → next_judge (kept_of n h) c ≡ kept_of n (c ∷ h)
-unfolding next_judge kept_of in_arow
+unfolding next_judge kept_of in_a_row
 kept_step n h c pos =
     rw (
       add-one (length h),
-      longer_row 1024 (in_arow locked_incr h) (locked_incr c) (omega arith),
-      longer_row 17 (in_arow waits h) (waits c) (omega arith),
+      longer_row 1024 (in_a_row locked_incr h) (locked_incr c) (omega arith),
+      longer_row 17 (in_a_row waits h) (waits c) (omega arith),
       opened_kept n h c,
       watch_kept n h c,
-      list_same 0 16 (lost_after (kept_of n h) c) (λ i. lost_in_arow i (c ∷ h) % limit n) (λ i below. lost_kept n h c i pos below),
+      list_same 0 16 (lost_after (kept_of n h) c) (λ i. lost_in_a_row i (c ∷ h) % limit n) (λ i below. lost_kept n h c i pos below),
     )
 
 -- a rule that compares p and t, and one of cycle 0: the judge knows by its count which it is at
@@ -82,10 +82,10 @@ g3_kept n h c =
     either (handover c) (λ e. rw e (watch_cuts_fixed (opening (access h)) c e)) (λ e. rw e)
 
 reaches_kept : (n : ℕ) (p : Cycle) (h : List Cycle) (c : Cycle) → 0 < n → decided p ≡ true
-    → (i : ℕ) → i < most_masters → reaches (kept_of n (p ∷ h)) c i ≡ completes (limit n) (lost_in_arow i (c ∷ (p ∷ h)))
-unfolding kept_of lost_in_arow
+    → (i : ℕ) → i < most_masters → reaches (kept_of n (p ∷ h)) c i ≡ completes (limit n) (lost_in_a_row i (c ∷ (p ∷ h)))
+unfolding kept_of lost_in_a_row
 reaches_kept n p h c pos e i below =
-    simp (e, lost_at n (p ∷ h) i below) (completes_row (limit n) (lost_in_arow i (p ∷ h)) (loses i p c) (some_limit n pos))
+    simp (e, lost_at n (p ∷ h) i below) (completes_row (limit n) (lost_in_a_row i (p ∷ h)) (loses i p c) (some_limit n pos))
 
 g11_kept : (n : ℕ) (h : List Cycle) (c : Cycle) → 0 < n → charges (kept_of n h) c G11 ≡ g11 n (c ∷ h)
 unfolding charges g11 kept_of
@@ -96,9 +96,9 @@ g11_kept n (p ∷ h) c pos =
     (λ e. simp (e, counted p h))
 
 pub exact : (n : ℕ) (h : List Cycle) (c : Cycle) → 0 < n → (r : Rule) → charges (kept_of n h) c r ≡ broken n r (c ∷ h)
-unfolding charges broken in_arow kept_of
-exact n h c pos A1 = completes_row 1024 (in_arow locked_incr h) (locked_incr c) (omega arith)
-exact n h c pos A2 = completes_row 17 (in_arow waits h) (waits c) (omega arith)
+unfolding charges broken in_a_row kept_of
+exact n h c pos A1 = completes_row 1024 (in_a_row locked_incr h) (locked_incr c) (omega arith)
+exact n h c pos A2 = completes_row 17 (in_a_row waits h) (waits c) (omega arith)
 exact n h c pos A3 = compares_kept n _ h c
 exact n h c pos A4 = compares_kept n _ h c
 exact n h c pos A5 = compares_kept n _ h c

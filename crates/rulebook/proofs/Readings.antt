@@ -1,6 +1,6 @@
 -- The readings of specs/Rows.antt, each proved by the law of its name.
 --
---   row_counted     == a row of cycles that all have f is as long as in_arow says
+--   row_counted     == a row of cycles that all have f is as long as in_a_row says
 --   completes_means == a length completes k exactly if it is a multiple of k above 0
 use Prim.Native.Nat.{ℕ, zero, suc, ◌+◌, ◌-◌, ◌*◌, ◌/◌, ◌%◌, ◌<◌}
 use mathlib.Core.Path.{◌≡◌, refl, ◌∙◌, sym, ap}
@@ -14,17 +14,17 @@ use lib.Dec.{eqb, ltb}
 use lib.ListN.{length}
 use Rattle.rules.specs.declared.Cycle.{Cycle}
 use Rattle.rules.proofs.Choice.{and_left, and_right, and_both}
-use Rattle.rulebook.specs.Traces.{always, in_arow, completes, all}
+use Rattle.rulebook.specs.Traces.{always, in_a_row, completes, all}
 use Rattle.rulebook.specs.Rules.{locked_incr, waits, broken}
 use Rattle.rulebook.specs.Rows.{A1InARow, A2InARow}
 
-no_row : (f : Cycle → Bool) (h : List Cycle) → always f h ≡ false → in_arow f h ≡ 0
-unfolding in_arow
+no_row : (f : Cycle → Bool) (h : List Cycle) → always f h ≡ false → in_a_row f h ≡ 0
+unfolding in_a_row
 no_row f [] e = refl
 no_row f (c ∷ h) e = rw e
 
-row_counted : (f : Cycle → Bool) (l h : List Cycle) → all f l ≡ true → always f h ≡ false → in_arow f (l ++ h) ≡ length l
-unfolding in_arow all
+row_counted : (f : Cycle → Bool) (l h : List Cycle) → all f l ≡ true → always f h ≡ false → in_a_row f (l ++ h) ≡ length l
+unfolding in_a_row all
 row_counted f [] h a e = no_row f h e
 row_counted f (c ∷ l) h a e =
     rw (and_left (f c) (all f l) a, row_counted f l h (and_right (f c) (all f l) a) e) (omega arith)

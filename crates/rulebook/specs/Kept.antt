@@ -14,8 +14,8 @@ use Rattle.rulebook.specs.declared.Watch.{Watch}
 use Rattle.rulebook.specs.declared.Watch.TheVariants.{Nothing, OnG2}
 use Rattle.rulebook.specs.declared.Judge.{Judge}
 use Rattle.rulebook.specs.Columns.{owners_request}
-use Rattle.rulebook.specs.Traces.{in_arow, access, Opened, not_yet, opened_at, opening, all, readies}
-use Rattle.rulebook.specs.Rules.{locked_incr, waits, is_watched, limit, lost_in_arow}
+use Rattle.rulebook.specs.Traces.{in_a_row, access, Opened, not_yet, opened_at, opening, all, readies}
+use Rattle.rulebook.specs.Rules.{locked_incr, waits, is_watched, limit, lost_in_a_row}
 use Rattle.rulebook.specs.State.{no_cycle, watch_ok, start_judge}
 use Rattle.rulebook.specs.Charges.{g3_with, list_from}
 
@@ -46,11 +46,11 @@ kept_of n h =
       n = n;
       count = length h;
       previous = latest h;
-      locked = in_arow locked_incr h % 1024;
-      waited = in_arow waits h % 17;
+      locked = in_a_row locked_incr h % 1024;
+      waited = in_a_row waits h % 17;
       opened = has_opened (opening (access h));
       watch = access_watch (opening (access h));
-      lost = list_from 0 most_masters (λ i. lost_in_arow i h % limit n);
+      lost = list_from 0 most_masters (λ i. lost_in_a_row i h % limit n);
     }
 
 pub record Sound (j : Judge) : Type 0 where

@@ -1,7 +1,7 @@
 -- The rules A1 to A9 and G1 to G12, in the page's order and words. No word of the judge's own state is used here.
 --
 --   is_watched c        == an opening from which G2 or G3 watches
---   lost_in_arow i h     == the decisions that master i has lost in a row (G11)
+--   lost_in_a_row i h     == the decisions that master i has lost in a row (G11)
 --   broken n r h       == the rule r is broken at the newest cycle of the history h
 --   broken_at n r trace t == it is broken at cycle t of the trace
 --   rules              == the rules in the order of the report
@@ -15,7 +15,7 @@ use Rattle.rules.specs.Masks.{single}
 use Rattle.rulebook.specs.declared.Rule.{Rule}
 use Rattle.rulebook.specs.declared.Rule.TheVariants.{A1, A2, A3, A4, A5, A6, A7, A8, A9, G1, G2, G3, G4, G5, G6, G7, G8, G9, G10, G11, G12}
 use Rattle.rulebook.specs.Columns.{is_ready, is_idle, is_nonseq, is_seq, is_incr, is_fixed, beats, mastlocked, decided, granted, requested, request, lock, grant, owners_request, handover, some_master}
-use Rattle.rulebook.specs.Traces.{comparing, always, at_first, in_arow, completes, access, Opened, not_yet, opened_at, opening, all, readies, so_far}
+use Rattle.rulebook.specs.Traces.{comparing, always, at_first, in_a_row, completes, access, Opened, not_yet, opened_at, opening, all, readies, so_far}
 
 abbrev pub differ : ℕ → ℕ → Bool
 differ a b = not (eqb a b)
@@ -127,11 +127,11 @@ abbrev pub loses : ℕ → Cycle → Cycle → Bool
 loses i p t = request i p && not (grant i t)
 
 -- how many of its latest decisions master i lost, in a row
-unfoldable pub lost_in_arow : ℕ → List Cycle → ℕ
-lost_in_arow i [] = 0
-lost_in_arow i (t ∷ []) = 0
-lost_in_arow i (t ∷ (p ∷ h)) =
-    cond (decided p) (cond (loses i p t) (1 + lost_in_arow i (p ∷ h)) 0) (lost_in_arow i (p ∷ h))
+unfoldable pub lost_in_a_row : ℕ → List Cycle → ℕ
+lost_in_a_row i [] = 0
+lost_in_a_row i (t ∷ []) = 0
+lost_in_a_row i (t ∷ (p ∷ h)) =
+    cond (decided p) (cond (loses i p t) (1 + lost_in_a_row i (p ∷ h)) 0) (lost_in_a_row i (p ∷ h))
 
 -- the lost decisions at which G11 is charged: n
 abbrev pub limit : ℕ → ℕ
@@ -139,7 +139,7 @@ limit n = n
 
 -- "Reaching n is charged and returns it to 0", once a cycle, however many masters reach it.
 unfoldable pub g11 : ℕ → List Cycle → Bool
-g11 n h = comparing (λ p t. decided p) h && some_master (λ i. completes (limit n) (lost_in_arow i h))
+g11 n h = comparing (λ p t. decided p) h && some_master (λ i. completes (limit n) (lost_in_a_row i h))
 
 -- G12: cycle 0 lacks HGRANT 0001, HMASTER 0, HMASTLOCK 0, GRANTED 0; or has DECIDE 0 with IDLE.
 abbrev pub g12 : Cycle → Bool
@@ -148,8 +148,8 @@ g12 t =
     || not (decided t) && is_idle t
 
 unfoldable pub broken : ℕ → Rule → List Cycle → Bool
-broken n A1 h = completes 1024 (in_arow locked_incr h)
-broken n A2 h = completes 17 (in_arow waits h)
+broken n A1 h = completes 1024 (in_a_row locked_incr h)
+broken n A2 h = completes 17 (in_a_row waits h)
 broken n A3 h = comparing a3 h
 broken n A4 h = comparing a4 h
 broken n A5 h = comparing a5 h

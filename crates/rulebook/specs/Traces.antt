@@ -4,7 +4,7 @@
 --   comparing f h      == f of p and t, a rule that compares them; not at cycle 0
 --   always f h         == f of t, a rule that also holds at cycle 0
 --   at_first f h        == f of t where t is cycle 0
---   in_arow f h         == how many of the newest cycles have f, in a row
+--   in_a_row f h         == how many of the newest cycles have f, in a row
 --   completes k r      == a row of length r has just reached k, or once more k: the run restarts at 0 with each charge
 --   access h           == the cycles of the access that runs, so far: those since the last handover
 --   Opened, opening a  == an access at its opening: the opening itself, and the cycles later than it
@@ -30,9 +30,9 @@ at_first f (t ∷ []) = f t
 at_first f (t ∷ (p ∷ h)) = false
 
 -- "1,024 cycles in a row .. Charged at the last; the run restarts at 0."
-unfoldable pub in_arow : (Cycle → Bool) → List Cycle → ℕ
-in_arow f [] = 0
-in_arow f (c ∷ h) = cond (f c) (1 + in_arow f h) 0
+unfoldable pub in_a_row : (Cycle → Bool) → List Cycle → ℕ
+in_a_row f [] = 0
+in_a_row f (c ∷ h) = cond (f c) (1 + in_a_row f h) 0
 
 unfoldable pub completes : ℕ → ℕ → Bool
 completes k r = ltb 0 r && eqb (r % k) 0
