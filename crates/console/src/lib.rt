@@ -14,7 +14,7 @@ use std::rt::Files;
 use streams::Flow;
 
 // What a read came to: so many bytes stand in the buffer and more may come, or no more come, or it failed.
-#[derive(Drop)]
+#[derive(Clone, Copy)]
 pub enum Fed {
     More(usize),
     Last(usize),
@@ -22,7 +22,7 @@ pub enum Fed {
 }
 
 // How a program ends: done, done with breaches named, its input refused, its input not read, its output not written.
-#[derive(Drop)]
+#[derive(Clone, Copy)]
 pub enum Ending {
     Done,
     Breaches,
