@@ -12,7 +12,7 @@ import glob
 import re
 import sys
 
-TOKEN = re.compile(r"[^\W\d][\w'-]*(?:\.[\w'-]+)*|.", re.S)
+TOKEN = re.compile(r"\"(?:[^\"\\]|\\.)*\"|[^\W\d][\w'-]*(?:\.[\w'-]+)*|.", re.S)
 USE = re.compile(r"^(?:ghost )?(?:pub )?use ([\w.'·◌≡-]+?)(?:\.\{(.*?)\}|(?: as ([\w'-]+)))?;?$")
 CRATES = {p.split("/")[1] for p in glob.glob("crates/*/src")}
 

@@ -8,6 +8,7 @@ use Rattle.rules.specs.declared.Refusal.TheVariants as refusal
 use Rattle.rules.specs.declared.Check.TheVariants.{Good}
 use Rattle.rules.specs.Refusals.{number_of}
 use Rattle.rules.specs.Valid.{inputs_check, cycle_check}
+use Rattle.formats.specs.declared.Word.{Word}
 use Rattle.formats.specs.declared.Word.TheVariants.{Stim, Trace}
 use Rattle.formats.specs.Digits.{tab, lf, hex_char, decimal_before, decimal}
 use Rattle.formats.specs.Columns.{input_columns, cycle_columns, input_values, cycle_values}
@@ -98,12 +99,16 @@ unfolding header read_header_of
 other_word_refused Stim n rest = refl
 other_word_refused Trace n rest = refl
 
+each_word : (P : Word → Type 0) → P Stim → P Trace → (w : Word) → P w
+each_word P p q Stim = p
+each_word P p q Trace = q
+
 -- both sides of the tables compute
 pub header_shapes : promise.HeaderShapes
 unfolding bytes number_in read_header_of
 header_shapes =
     record {
-      after_the_word = λ w. elim w [ Stim ↦ refl | Trace ↦ refl ];
+      after_the_word = each_word _ refl refl;
       of_a_trace = refl;
     }
 

@@ -19,7 +19,7 @@ use Rattle.rulebook.specs.declared.Rule.{Rule}
 use Rattle.rulebook.specs.declared.Rule.TheVariants.{A1, A2, A3, A4, A5, A6, A7, A8, A9, G1, G2, G3, G4, G5, G6, G7, G8, G9, G10, G11, G12}
 use Rattle.rulebook.specs.Columns.{decided, handover}
 use Rattle.rulebook.specs.Traces.{comparing, at_first, in_a_row, completes, access, opening}
-use Rattle.rulebook.specs.Rules.{locked_incr, waits, g2, g3, loses, lost_in_a_row, limit, g11, broken}
+use Rattle.rulebook.specs.Rules.{locked_incr, waits, a3, a4, a5, a6, a7, a9, g2, g3, g4, g5, g6, g7, g8, g9, g10, g12, loses, lost_in_a_row, limit, g11, broken}
 use Rattle.rulebook.specs.State.{start_judge}
 use Rattle.rulebook.specs.Charges.{list_from, lost_after, next_judge, compares_at, reaches, charges}
 use Rattle.rulebook.specs.Kept.{access_watch, kept_of}
@@ -99,22 +99,22 @@ pub exact : (n : ℕ) (h : List Cycle) (c : Cycle) → 0 < n → (r : Rule) → 
 unfolding charges broken in_a_row kept_of
 exact n h c pos A1 = completes_row 1024 (in_a_row locked_incr h) (locked_incr c) (omega arith)
 exact n h c pos A2 = completes_row 17 (in_a_row waits h) (waits c) (omega arith)
-exact n h c pos A3 = compares_kept n _ h c
-exact n h c pos A4 = compares_kept n _ h c
-exact n h c pos A5 = compares_kept n _ h c
-exact n h c pos A6 = compares_kept n _ h c
-exact n h c pos A7 = compares_kept n _ h c
+exact n h c pos A3 = compares_kept n a3 h c
+exact n h c pos A4 = compares_kept n a4 h c
+exact n h c pos A5 = compares_kept n a5 h c
+exact n h c pos A6 = compares_kept n a6 h c
+exact n h c pos A7 = compares_kept n a7 h c
 exact n h c pos A8 = refl
-exact n h c pos A9 = first_kept n _ h c
+exact n h c pos A9 = first_kept n a9 h c
 exact n h c pos G1 = refl
 exact n h c pos G2 = g2_kept n h c
 exact n h c pos G3 = g3_kept n h c
-exact n h c pos G4 = compares_kept n _ h c
-exact n h c pos G5 = compares_kept n _ h c
-exact n h c pos G6 = compares_kept n _ h c
-exact n h c pos G7 = compares_kept n _ h c
-exact n h c pos G8 = compares_kept n _ h c
-exact n h c pos G9 = compares_kept n _ h c
-exact n h c pos G10 = compares_kept n _ h c
+exact n h c pos G4 = compares_kept n g4 h c
+exact n h c pos G5 = compares_kept n g5 h c
+exact n h c pos G6 = compares_kept n g6 h c
+exact n h c pos G7 = compares_kept n g7 h c
+exact n h c pos G8 = compares_kept n g8 h c
+exact n h c pos G9 = compares_kept n g9 h c
+exact n h c pos G10 = compares_kept n g10 h c
 exact n h c pos G11 = g11_kept n h c pos
-exact n h c pos G12 = first_kept n _ h c
+exact n h c pos G12 = first_kept n g12 h c

@@ -43,7 +43,7 @@ every_rule G10 = stands rules 18 A1 (omega arith)
 every_rule G11 = stands rules 19 A1 (omega arith)
 every_rule G12 = stands rules 20 A1 (omega arith)
 
-pub those_has : (f : Rule → Bool) {l : List Rule} (r : Rule) → Memᴰ r l → f r ≡ true → Memᴰ r (those f l)
+pub those_has : (f : Rule → Bool) (r : Rule) {l : List Rule} → Memᴰ r l → f r ≡ true → Memᴰ r (those f l)
 unfolding those
 those_has f r (Memᴰ.head {x = x} e) h = let q : f x ≡ true = ap f (sym e) ∙ h in rw q (Memᴰ.head e)
 those_has f r (Memᴰ.tail {x = x} m) h =

@@ -36,7 +36,7 @@ abbrev pub outputs : List String
 outputs =
     "trace\t1\t3\n0000\t0000\t0\t0\t0\t0001\t0\t0\t1\t0\t0\n0006\t0000\t1\t0\t0\t0001\t0\t0\t1\t0\t0\n0006\t0000\t1\t0\t0\t0002\t0\t0\t0\t1\t0\n0006\t0000\t1\t2\t3\t0002\t1\t0\t0\t0\t1\n0006\t0000\t1\t3\t3\t0002\t1\t0\t0\t0\t1\n0006\t0000\t0\t3\t3\t0002\t1\t0\t0\t0\t1\n0006\t0000\t1\t3\t3\t0002\t1\t0\t0\t0\t1\n0006\t0000\t1\t3\t3\t0002\t1\t0\t1\t0\t1\n0004\t0000\t1\t0\t0\t0004\t1\t0\t0\t1\t0\n0004\t0000\t1\t2\t0\t0004\t2\t0\t1\t0\t1\n"
     ∷ "end\t10\t0\n"
-    ∷ "9\t_g6\n9\t_g9\nend\t10\t2\n"
+    ∷ "9\tG6\n9\tG9\nend\t10\t2\n"
     ∷ "end\t0\t0\n"
     ∷ "trace\t1\t3\n"
     ∷ "refused\t1\t2\n"
