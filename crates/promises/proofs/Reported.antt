@@ -89,7 +89,7 @@ module _ (n : ℕ) (range : InRange n) where
       ∙ one_line judge_turn k (tally_of j b) (tally_of (judge_of j c).judge (b + length charged)) (trace_line c) (lines_of trace_line cs ++ rest) (breach_lines j.count charged)
       (trace_turn j b c (lines_of trace_line cs ++ rest) same valid.0 p)
       ∙ ap (λ (l : List ℕ). breach_lines j.count charged ++ l)
-      (judged_lines r k (b + length charged) rest last (next_n j c f ∙ same) valid.1 (omega arith)
+      (judged_lines {j = (judge_of j c).judge} {end = end} {cs = cs} r k (b + length charged) rest last (next_n j c f ∙ same) valid.1 (omega arith)
       (subst (λ (m : ℕ). judge_turn (tally_of end m) rest ≡ stops last) sum e))
       ∙ joins (judge_of j c).judge.count j.count charged (charges_in r) last (next_count j c f)
 

@@ -52,7 +52,7 @@ abbrev all_pass : (Rule → Bool) → List Rule → Bool
 all_pass f [] = true
 all_pass f (r ∷ l) = f r && all_pass f l
 
-each_rule : (f : Rule → Bool) {l : List Rule} (r : Rule) → Memᴰ r l → all_pass f l ≡ true → f r ≡ true
+each_rule : (f : Rule → Bool) (r : Rule) {l : List Rule} → Memᴰ r l → all_pass f l ≡ true → f r ≡ true
 each_rule f r (Memᴰ.head {x = x} e) h = ap f e ∙ and_left (f x) _ h
 each_rule f r (Memᴰ.tail {x = x} m) h = each_rule f r m (and_right (f x) _ h)
 
