@@ -6,7 +6,7 @@ ghost use Rattle.bench.specs.Bench.{said_of, held_after};
 use rules::{Answer, Inputs, Outputs, Refusal, State};
 
 // What the caller says of a cycle: what the arbiter drove in it, or why it was refused.
-#[derive(Drop)]
+#[derive(Clone, Copy)]
 pub enum Moved {
     Shown(Outputs),
     Refused(Refusal),

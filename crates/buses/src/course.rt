@@ -10,7 +10,7 @@ use crate::Bus;
 use rules::{Burst, Inputs};
 
 // The phase after the cycle, and what keeps the bus busy: 0 where the owner's burst lets a decision fall.
-#[derive(Drop)]
+#[derive(Clone, Copy)]
 pub struct Course {
     pub busy: u32,
     pub phase: u32,

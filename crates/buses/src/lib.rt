@@ -19,7 +19,7 @@ ghost use Rattle.buses.specs.Buses.{phase_from, phase_number, state_from, Fit, D
 use rules::{Found, Inputs, Outputs, Phase, State};
 
 // A state but for n. A flag is 0 or 1, and the phase is one number: 0 Done, 1 to 3 Fixed with so many ready cycles to come, 4 Open, 5 Fresh.
-#[derive(Drop)]
+#[derive(Clone, Copy)]
 pub struct Bus {
     pub g: u32,
     pub m: u32,
@@ -117,7 +117,7 @@ fn winner(n: u32, g: u32, m: u32) -> u32
 }
 
 // What a cycle with GRANTED low chooses: the grant and GRANTED after it, and DECIDE.
-#[derive(Drop)]
+#[derive(Clone, Copy)]
 struct Choice {
     g: u32,
     granted: u32,
@@ -153,7 +153,7 @@ fn choose(n: u32, b: Bus, x: Inputs, held: u32) -> Choice
 }
 
 // What a cycle comes to: the bus after it, and DECIDE.
-#[derive(Drop)]
+#[derive(Clone, Copy)]
 struct Turn {
     bus: Bus,
     decide: u32,
@@ -228,7 +228,7 @@ fn show(n: u32, b: Bus, x: Inputs, request: u32, decide: u32) -> Outputs
 }
 
 // The bus after a cycle that was taken, and what was shown in it.
-#[derive(Drop)]
+#[derive(Clone, Copy)]
 pub struct Went {
     pub bus: Bus,
     pub outputs: Outputs,

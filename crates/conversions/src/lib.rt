@@ -3,7 +3,7 @@ use rules::Cycle;
 use streams::Flow;
 
 // Where a conversion stands: the masters, the cycles so far and the last of them, and the line of the input that comes next.
-#[derive(Drop)]
+#[derive(Clone, Copy)]
 pub struct Position {
     pub n: u32,
     pub count: u32,
@@ -12,7 +12,7 @@ pub struct Position {
 }
 
 // A conversion after a header or a block: how many bytes it wrote, how that ended, and where it stands.
-#[derive(Drop)]
+#[derive(Clone, Copy)]
 pub struct Converted {
     pub written: usize,
     pub flow: Flow,

@@ -7,7 +7,7 @@ ghost use Rattle.docketing.specs.Bytes.{is_judge, judge_in};
 use rulebook::Judge;
 
 // What lent bytes are: whether those of a judge, well formed or not, and that judge if so.
-#[derive(Drop)]
+#[derive(Clone, Copy)]
 pub struct Docket {
     pub known: bool,
     pub judge: Judge,

@@ -64,7 +64,7 @@ fn watch_of(w: u32, k: u32) -> Watch
 }
 
 // The decisions that each master has lost in a row.
-#[derive(Drop)]
+#[derive(Clone, Copy)]
 struct Lost {
     of: [u32; 16],
 }

@@ -15,7 +15,7 @@ use rules::{Cycle, Refusal};
 use streams::Flow;
 
 // What a cycle comes to: the bytes written, and where the conversion stands after it.
-#[derive(Drop)]
+#[derive(Clone, Copy)]
 struct Gone {
     written: usize,
     position: Position,

@@ -2,21 +2,21 @@
 use rules::{Cycle, Inputs, Refusal};
 
 // The word that a header begins with.
-#[derive(Drop)]
+#[derive(Clone, Copy)]
 pub enum Word {
     Stim,
     Trace,
 }
 
 // A header read: n, and the position after it.
-#[derive(Drop)]
+#[derive(Clone, Copy)]
 pub enum HeaderRead {
     Header(u32, usize),
     Refused(Refusal),
 }
 
 // A stimulus line read: its columns, and the position after it.
-#[derive(Drop)]
+#[derive(Clone, Copy)]
 pub enum StimulusRead {
     Line(Inputs, usize),
     NoMore,
@@ -24,7 +24,7 @@ pub enum StimulusRead {
 }
 
 // A trace line read: its columns, and the position after it.
-#[derive(Drop)]
+#[derive(Clone, Copy)]
 pub enum TraceRead {
     Line(Cycle, usize),
     NoMore,
@@ -32,7 +32,7 @@ pub enum TraceRead {
 }
 
 // How many bytes were written, from the start of the lent buffer on.
-#[derive(Drop)]
+#[derive(Clone, Copy)]
 pub enum Written {
     Bytes(usize),
     Refused(Refusal),

@@ -13,7 +13,7 @@ pub fn apart(b: u8) -> u64
 }
 
 // HREADY, HTRANS and HBURST, if they are not bad.
-#[derive(Drop)]
+#[derive(Clone, Copy)]
 pub struct Codes {
     pub bad: u64,
     pub hready: u32,
@@ -61,7 +61,7 @@ pub fn codes_at(s: &[u8], after: u64) -> Codes
 }
 
 // HMASTLOCK, DECIDE, GRANTED and BUSREQ, if they are not bad.
-#[derive(Drop)]
+#[derive(Clone, Copy)]
 pub struct Flags {
     pub bad: u64,
     pub hmastlock: u32,

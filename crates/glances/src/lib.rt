@@ -15,7 +15,7 @@ use rules::{Cycle, Inputs, Outputs};
 pub use table::digits;
 
 // A stimulus line: whether it is good, and its columns if so.
-#[derive(Drop)]
+#[derive(Clone, Copy)]
 pub struct Stimulus {
     pub good: bool,
     pub inputs: Inputs,
@@ -45,7 +45,7 @@ pub fn see_stimulus(digits: &[u32], n: u32, s: &[u8]) -> Stimulus
 }
 
 // A trace line: whether it is good, and its columns if so.
-#[derive(Drop)]
+#[derive(Clone, Copy)]
 pub struct Trace {
     pub good: bool,
     pub cycle: Cycle,

@@ -106,7 +106,7 @@ pub fn write_header(w: Word, n: u32, buf: &mut [u8]) -> Written
 }
 
 // A rule's name: its letter and its index.
-#[derive(Drop)]
+#[derive(Clone, Copy)]
 struct Name {
     letter: u8,
     index: u32,

@@ -45,7 +45,7 @@ fn refusal(b: &[u8], x: Inputs) -> u32
 }
 
 // What a step comes to before it is taken: its number, and where that is 0 the state in plain numbers.
-#[derive(Drop)]
+#[derive(Clone, Copy)]
 struct Entry {
     answer: u32,
     n: u32,

@@ -2,14 +2,14 @@
 use rules::{Cycle, Refusal, State};
 
 // What lent state bytes are: a state, well formed or not, or bytes that no state has.
-#[derive(Drop)]
+#[derive(Clone, Copy)]
 pub enum Lent {
     Known(State),
     Unknown,
 }
 
 // What a call comes to: the state after the cycle and the cycle to show, or a refusal.
-#[derive(Drop)]
+#[derive(Clone, Copy)]
 pub enum Outcome {
     Taken(State, Cycle),
     Refused(Refusal),

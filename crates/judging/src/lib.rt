@@ -93,7 +93,7 @@ pub fn well_formed(j: Judge) -> bool
 }
 
 // The answer of a step with its charges as one number: bit i is that of the i-th rule, in the order of the report.
-#[derive(Drop)]
+#[derive(Clone, Copy)]
 pub struct Ruled {
     pub judge: Judge,
     pub verdict: Verdict,
@@ -150,7 +150,7 @@ pub fn rule(j: Judge, c: Cycle) -> Ruled
 }
 
 // For each rule, in the order of the report, whether it is charged.
-#[derive(Drop)]
+#[derive(Clone, Copy)]
 struct Charges {
     of: [bool; 21],
 }

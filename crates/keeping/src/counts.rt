@@ -25,7 +25,7 @@ fn losers(requests: u32, grants: u32) -> u32
 }
 
 // A judge with its lost counts after a cycle, and whether one of them reached the limit.
-#[derive(Drop)]
+#[derive(Clone, Copy)]
 pub struct Counted {
     pub judge: Judge,
     pub reached: bool,

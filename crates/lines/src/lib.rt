@@ -11,7 +11,7 @@ use formats::{StimulusRead, TraceRead, Written};
 use rules::{Check, Cycle, Inputs, Outputs, Refusal};
 
 // Where a reader stands before it looks at a line: n is wrong, or the position is beyond the input, at its end or inside it.
-#[derive(Drop)]
+#[derive(Clone, Copy)]
 enum Spot {
     Wrong,
     Beyond,

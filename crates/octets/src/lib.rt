@@ -9,7 +9,7 @@ ghost use Rattle.octets.specs.Octets.{small as small_of, place_of, fitting, Hold
 use buses::Bus;
 
 // What lent bytes hold: whether they are those of a well-formed state, and that state in plain numbers if so.
-#[derive(Drop)]
+#[derive(Clone, Copy)]
 pub struct Held {
     pub sound: bool,
     pub n: u32,

@@ -60,7 +60,7 @@ fn reversed(w: u32) -> u32
 }
 
 // HBUSREQ and HLOCK as text.
-#[derive(Drop)]
+#[derive(Clone, Copy)]
 struct Masks {
     requests: u32,
     locks: u32,

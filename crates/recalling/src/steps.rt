@@ -15,7 +15,7 @@ use rules::Cycle;
 use streams::Flow;
 
 // What a step came to: the bytes written, those of the step, whether the program goes on, and where it stands.
-#[derive(Drop)]
+#[derive(Clone, Copy)]
 struct Went {
     written: usize,
     taken: usize,

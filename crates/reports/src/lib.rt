@@ -91,7 +91,7 @@ fn rule_at(i: usize) -> Rule
 }
 
 // How many bytes the breach lines of a cycle have, and how many breaches there are.
-#[derive(Drop)]
+#[derive(Clone, Copy)]
 pub struct Breaches {
     pub written: usize,
     pub count: u32,

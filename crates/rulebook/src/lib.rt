@@ -2,7 +2,7 @@
 use rules::{Cycle, Refusal};
 
 // In the order of the report.
-#[derive(Drop)]
+#[derive(Clone, Copy)]
 pub enum Rule {
     A1,
     A2,
@@ -28,7 +28,7 @@ pub enum Rule {
 }
 
 // The watch of an access: none, G2's, or G3's with the ready cycles that are left.
-#[derive(Drop)]
+#[derive(Clone, Copy)]
 pub enum Watch {
     Nothing,
     OnG2,
@@ -37,7 +37,7 @@ pub enum Watch {
 
 // The judge's state: n, the cycles taken, the previous cycle, the run lengths of A1 and A2, whether the access has opened,
 // its watch, and the lost decisions of each of sixteen masters.
-#[derive(Drop)]
+#[derive(Clone, Copy)]
 pub struct Judge {
     pub n: u32,
     pub count: u32,
@@ -49,21 +49,21 @@ pub struct Judge {
     pub lost: [u32; 16],
 }
 
-#[derive(Drop)]
+#[derive(Clone, Copy)]
 pub enum Verdict {
     Taken,
     Refused(Refusal),
 }
 
 // The answer of a start: the judge stands beside the verdict, since no enum holds an array.
-#[derive(Drop)]
+#[derive(Clone, Copy)]
 pub struct Started {
     pub judge: Judge,
     pub verdict: Verdict,
 }
 
 // The answer of a step: the new state, the verdict, and for each rule, in the order of the report, whether it is charged.
-#[derive(Drop)]
+#[derive(Clone, Copy)]
 pub struct Judgement {
     pub judge: Judge,
     pub verdict: Verdict,

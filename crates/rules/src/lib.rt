@@ -1,7 +1,7 @@
 // The types of document 01. What each of its sentences means stands in specs/, over these.
 
 // The refusals, in the order of their numbers, 1 to 14.
-#[derive(Drop)]
+#[derive(Clone, Copy)]
 pub enum Refusal {
     Masters,
     Header,
@@ -20,14 +20,14 @@ pub enum Refusal {
 }
 
 // What a test finds: nothing wrong, or the first refusal that applies.
-#[derive(Drop)]
+#[derive(Clone, Copy)]
 pub enum Check {
     Good,
     Bad(Refusal),
 }
 
 // The sorts of burst codes. A fixed burst carries its number of beats.
-#[derive(Drop)]
+#[derive(Clone, Copy)]
 pub enum Burst {
     Single,
     Unspecified,
@@ -37,7 +37,7 @@ pub enum Burst {
 }
 
 // Where the owner stands in its access. Fixed holds the ready cycles that are still to come.
-#[derive(Drop)]
+#[derive(Clone, Copy)]
 pub enum Phase {
     Fresh,
     Fixed(u32),
@@ -46,7 +46,7 @@ pub enum Phase {
 }
 
 // The arbiter's state.
-#[derive(Drop)]
+#[derive(Clone, Copy)]
 pub struct State {
     pub n: u32,
     pub g: u32,
@@ -58,7 +58,7 @@ pub struct State {
 }
 
 // What the masters and the slave drive in a cycle, as the page's five columns.
-#[derive(Drop)]
+#[derive(Clone, Copy)]
 pub struct Inputs {
     pub hbusreq: u32,
     pub hlock: u32,
@@ -68,7 +68,7 @@ pub struct Inputs {
 }
 
 // What the arbiter drives in a cycle, as the page's six columns. A flag is 0 or 1.
-#[derive(Drop)]
+#[derive(Clone, Copy)]
 pub struct Outputs {
     pub hgrant: u32,
     pub hmaster: u32,
@@ -79,14 +79,14 @@ pub struct Outputs {
 }
 
 // A recorded cycle: the eleven columns of a trace line.
-#[derive(Drop)]
+#[derive(Clone, Copy)]
 pub struct Cycle {
     pub inputs: Inputs,
     pub outputs: Outputs,
 }
 
 // What a decision needs of a cycle: HREADY, and what the owner of the bus drives.
-#[derive(Drop)]
+#[derive(Clone, Copy)]
 pub struct Seen {
     pub ready: bool,
     pub nonseq: bool,
@@ -96,21 +96,21 @@ pub struct Seen {
 }
 
 // Where a walk round the masters ends.
-#[derive(Drop)]
+#[derive(Clone, Copy)]
 pub enum Found {
     At(u32),
     Nothing,
 }
 
 // The answer of reset.
-#[derive(Drop)]
+#[derive(Clone, Copy)]
 pub enum Start {
     Ready(State),
     Refused(Refusal),
 }
 
 // The answer of a step: the state after the cycle and what was shown in it, or the state as it came.
-#[derive(Drop)]
+#[derive(Clone, Copy)]
 pub enum Answer {
     Next(State, Outputs),
     Refused(Refusal, State),

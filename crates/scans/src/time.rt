@@ -17,7 +17,7 @@ pub fn has_time(s: &[u8]) -> bool
 }
 
 // Whether the number of a step is the time t, whether its line is, and the bytes of that line.
-#[derive(Drop)]
+#[derive(Clone, Copy)]
 pub struct Time {
     pub right: bool,
     pub line: bool,

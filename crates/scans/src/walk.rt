@@ -81,7 +81,7 @@ fn value_in(width: usize, code: u8, s: &[u8], p: usize) -> u32
 }
 
 // What the walk knows behind one variable.
-#[derive(Drop)]
+#[derive(Clone, Copy)]
 struct Behind {
     ok: bool,
     value: u32,
@@ -111,7 +111,7 @@ fn walk(all: bool, ok: bool, width: usize, code: u8, v: u32, s: &[u8], p: usize)
 }
 
 // What it knows behind the columns of a stimulus.
-#[derive(Drop)]
+#[derive(Clone, Copy)]
 struct InputsBehind {
     ok: bool,
     inputs: Inputs,
@@ -142,7 +142,7 @@ fn walk_inputs(all: bool, x: Inputs, s: &[u8], p: usize) -> InputsBehind
 }
 
 // What it knows behind all columns.
-#[derive(Drop)]
+#[derive(Clone, Copy)]
 struct OutputsBehind {
     ok: bool,
     outputs: Outputs,
@@ -175,7 +175,7 @@ fn walk_outputs(all: bool, ok: bool, o: Outputs, s: &[u8], p: usize) -> OutputsB
 }
 
 // The lines of a step from p on: whether their shape is right, and the cycle that results.
-#[derive(Drop)]
+#[derive(Clone, Copy)]
 pub struct Changes {
     pub shaped: bool,
     pub cycle: Cycle,

@@ -5,7 +5,7 @@ ghost use Rattle.waves.specs.Variables.{bits};
 ghost use Rattle.sights.specs.Sights.{Passed as Passes};
 
 // A column passed: its value, the position after it, and the lines so far.
-#[derive(Drop)]
+#[derive(Clone, Copy)]
 pub struct Passed {
     pub value: u32,
     pub next: usize,
@@ -126,7 +126,7 @@ fn characters(b: u64) -> u64
 }
 
 // Eight characters as one number: whether they are bits, and the number in them.
-#[derive(Drop)]
+#[derive(Clone, Copy)]
 struct Octet {
     good: bool,
     value: u32,

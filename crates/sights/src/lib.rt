@@ -15,7 +15,7 @@ ghost use Rattle.sights.specs.Sights.{InputsPassed, OutputsPassed};
 use rules::{Cycle, Inputs, Outputs};
 
 // The columns of a stimulus passed.
-#[derive(Drop)]
+#[derive(Clone, Copy)]
 struct Asked {
     inputs: Inputs,
     next: usize,
@@ -46,7 +46,7 @@ fn see_inputs(x: Inputs, s: &[u8], q: usize) -> Asked
 }
 
 // The columns that a trace line adds passed.
-#[derive(Drop)]
+#[derive(Clone, Copy)]
 struct Answered {
     outputs: Outputs,
     next: usize,
@@ -97,7 +97,7 @@ fn passes(n: u32, c: Cycle) -> bool
 }
 
 // What is seen of a step: whether it is good, and if so its cycle, the position after it and its lines.
-#[derive(Drop)]
+#[derive(Clone, Copy)]
 pub struct Seen {
     pub good: bool,
     pub cycle: Cycle,

@@ -15,7 +15,7 @@ use rules::{Refusal, Start, State};
 use streams::{ArbiterStretch, Flow, JudgeStretch, Tally};
 
 // What a stimulus header comes to: the bytes of the trace's header and the state to go on from, those of a refusal line, or 9.
-#[derive(Drop)]
+#[derive(Clone, Copy)]
 pub enum ArbiterHead {
     Begun(usize, State),
     Refused(usize),

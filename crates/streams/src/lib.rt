@@ -4,7 +4,7 @@ use rules::State;
 
 // How a block ended: all of it was used and more may come; or the program stopped. Nothing was done where the lent buffer
 // is too short (9), or where what was kept is not well formed (10).
-#[derive(Drop)]
+#[derive(Clone, Copy)]
 pub enum Flow {
     GoesOn,
     Stopped,
@@ -13,7 +13,7 @@ pub enum Flow {
 }
 
 // The arbiter after a block: how many bytes it wrote, how the block ended, and its state.
-#[derive(Drop)]
+#[derive(Clone, Copy)]
 pub struct ArbiterStretch {
     pub written: usize,
     pub flow: Flow,
@@ -21,14 +21,14 @@ pub struct ArbiterStretch {
 }
 
 // What the judging program keeps: the judge, and the breaches so far.
-#[derive(Drop)]
+#[derive(Clone, Copy)]
 pub struct Tally {
     pub judge: Judge,
     pub breaches: u32,
 }
 
 // The judging program after a block.
-#[derive(Drop)]
+#[derive(Clone, Copy)]
 pub struct JudgeStretch {
     pub written: usize,
     pub flow: Flow,

@@ -15,7 +15,7 @@ use rules::{Cycle, Refusal};
 use streams::{Flow, JudgeStretch, Tally};
 
 // What a cycle that is taken comes to: the bytes written, and what is kept after it.
-#[derive(Drop)]
+#[derive(Clone, Copy)]
 struct Gone {
     written: usize,
     tally: Tally,

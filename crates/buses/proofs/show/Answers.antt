@@ -1,0 +1,6 @@
+-- `show` meets its contract.
+use Rattle.buses.proofs.Step.{shows}
+use Rattle.buses.proofs.show.Goals as goal
+
+pub returns : goal.returns
+returns c = search shows

@@ -1,0 +1,6 @@
+-- `winner` meets its contract: where some bit is high, the walk ends at a master.
+use Rattle.buses.proofs.Decision.{some_winner}
+use Rattle.buses.proofs.winner.Goals as goal
+
+pub returns-in-Nothing : goal.returns-in-Nothing
+returns-in-Nothing c = absurd (search some_winner)
