@@ -5,6 +5,7 @@ use mathlib.Core.Path.{◌≡◌, sym, ◌∙◌}
 use mathlib.Core.List.{List}
 use contract.Lifetimes.{Lfts}
 use denote.Ref.{Bor}
+use denote.MutBor.{MutBor}
 use Rattle.rules.specs.declared.Inputs.{Inputs}
 use Rattle.rules.specs.declared.Cycle.{Cycle}
 use Rattle.formats.specs.declared.StimulusRead.{StimulusRead}
@@ -17,6 +18,9 @@ use Rattle.lines.proofs.write_trace.Reads as write_trace
 
 abbrev Bytes : Type 0
 Bytes = Bor (List ℕ)
+
+abbrev Buffer : Type 0
+Buffer = MutBor (List ℕ)
 
 module _ (κs : Lfts 1) (n : ℕ) where
   pub read_stimulus_unique : (s : Bytes) (at : ℕ) (r r' : StimulusRead)
@@ -31,7 +35,7 @@ module _ (κs : Lfts 1) (n : ℕ) where
       → r ≡ r'
   read_trace_unique s at r r' p q = p ∙ sym q
 
-  module _ (buf out out' : Bytes) (r r' : Written) where
+  module _ (buf out out' : Buffer) (r r' : Written) where
     pub write_stimulus_unique : (x : Inputs)
         → write_stimulus.Post κs (n, (x, (buf, tt))) r (n, (x, (out, tt)))
         → write_stimulus.Post κs (n, (x, (buf, tt))) r' (n, (x, (out', tt)))
