@@ -4,7 +4,7 @@ use Prim.Native.Nat.{ℕ}
 use mathlib.Core.Path.{◌≡◌, sym, ◌∙◌}
 use mathlib.Core.List.{List}
 use contract.Lifetimes.{Lfts}
-use denote.Ref.{Bor}
+use denote.MutBor.{MutBor}
 use Rattle.rules.specs.declared.Cycle.{Cycle}
 use Rattle.formats.specs.declared.Written.{Written}
 use Rattle.dumps.proofs.write_dump_header.Reads as write_header
@@ -12,7 +12,7 @@ use Rattle.dumps.proofs.put_step.Reads as put_step
 use Rattle.dumps.proofs.write_step.Reads as write_step
 
 abbrev Bytes : Type 0
-Bytes = Bor (List ℕ)
+Bytes = MutBor (List ℕ)
 
 module _ (κs : Lfts 1) (buf out out' : Bytes) where
   pub write_dump_header_unique : (n : ℕ) (r r' : Written)

@@ -5,6 +5,7 @@ use mathlib.Core.Path.{◌≡◌, sym, ◌∙◌}
 use mathlib.Core.List.{List}
 use contract.Lifetimes.{Lfts}
 use denote.Ref.{Bor}
+use denote.MutBor.{MutBor}
 use Rattle.rules.specs.declared.Refusal.{Refusal}
 use Rattle.rulebook.specs.declared.Rule.{Rule}
 use Rattle.formats.specs.declared.Word.{Word}
@@ -19,6 +20,9 @@ use Rattle.headers.proofs.write_refused.Reads as write_refused
 abbrev Bytes : Type 0
 Bytes = Bor (List ℕ)
 
+abbrev Buffer : Type 0
+Buffer = MutBor (List ℕ)
+
 module _ (κs : Lfts 1) where
   pub read_header_unique : (w : Word) (s : Bytes) (r r' : HeaderRead)
       → read_header.Post κs (w, (s, tt)) r (w, (s, tt))
@@ -26,7 +30,7 @@ module _ (κs : Lfts 1) where
       → r ≡ r'
   read_header_unique w s r r' p q = p ∙ sym q
 
-  module _ (buf out out' : Bytes) (r r' : Written) where
+  module _ (buf out out' : Buffer) (r r' : Written) where
     pub write_header_unique : (w : Word) (n : ℕ)
         → write_header.Post κs (w, (n, (buf, tt))) r (w, (n, (out, tt)))
         → write_header.Post κs (w, (n, (buf, tt))) r' (w, (n, (out', tt)))

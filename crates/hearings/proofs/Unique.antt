@@ -4,14 +4,14 @@ use Prim.Native.Nat.{ℕ}
 use mathlib.Core.Path.{◌≡◌}
 use mathlib.Core.List.{List}
 use contract.Lifetimes.{Lfts}
-use denote.Ref.{Bor}
+use denote.MutBor.{MutBor}
 use Rattle.rules.specs.declared.Cycle.{Cycle}
 use Rattle.docketing.proofs.Calls.{one_step, one_start}
 use Rattle.hearings.proofs.step.Reads as step
 use Rattle.hearings.proofs.start.Reads as start
 
 abbrev Buffer : Type 0
-Buffer = Bor (List ℕ)
+Buffer = MutBor (List ℕ)
 
 module _ (κs : Lfts 2) (c : Cycle) (judge broken : Buffer) where
   -- the answer r, with the two buffers at exit

@@ -4,7 +4,7 @@ use Prim.Native.Nat.{ℕ}
 use mathlib.Core.Path.{◌≡◌}
 use mathlib.Core.List.{List}
 use contract.Lifetimes.{Lfts}
-use denote.Ref.{Bor}
+use denote.MutBor.{MutBor}
 use Rattle.hosting.specs.Calls.{lent, as_line, as_numbers}
 use Rattle.hosting.proofs.Calls.{step_call_unique, reset_call_unique}
 use Rattle.host.proofs.espigambre_step.Reads as step
@@ -12,7 +12,7 @@ use Rattle.host.proofs.espigambre_step_outputs.Reads as outputs
 use Rattle.host.proofs.espigambre_reset.Reads as reset
 
 abbrev Buffer : Type 0
-Buffer = Bor (List ℕ)
+Buffer = MutBor (List ℕ)
 
 module _ (κs : Lfts 2) (hbusreq hlock hready htrans hburst : ℕ) (state shown : Buffer) where
   -- the answer r, with the two buffers at exit

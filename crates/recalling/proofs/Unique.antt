@@ -5,6 +5,7 @@ use mathlib.Core.Path.{◌≡◌, sym, ◌∙◌}
 use mathlib.Core.List.{List}
 use contract.Lifetimes.{Lfts}
 use denote.Ref.{Bor}
+use denote.MutBor.{MutBor}
 use Rattle.conversions.specs.declared.Position.{Position}
 use Rattle.conversions.specs.declared.Converted.{Converted}
 use Rattle.recalling.proofs.undump_head.Reads as undump_head
@@ -13,7 +14,10 @@ use Rattle.recalling.proofs.undump_block.Reads as undump_block
 abbrev Bytes : Type 0
 Bytes = Bor (List ℕ)
 
-module _ (κs : Lfts 2) (input buf out out' : Bytes) (r r' : Converted) where
+abbrev Buffer : Type 0
+Buffer = MutBor (List ℕ)
+
+module _ (κs : Lfts 2) (input : Bytes) (buf out out' : Buffer) (r r' : Converted) where
   pub undump_head_unique : undump_head.Post κs (input, (buf, tt)) r (input, (out, tt))
       → undump_head.Post κs (input, (buf, tt)) r' (input, (out', tt))
       → (r ≡ r') × (out.now ≡ out'.now)

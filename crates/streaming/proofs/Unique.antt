@@ -5,6 +5,7 @@ use mathlib.Core.Path.{◌≡◌, sym, ◌∙◌}
 use mathlib.Core.List.{List}
 use contract.Lifetimes.{Lfts}
 use denote.Ref.{Bor}
+use denote.MutBor.{MutBor}
 use Rattle.rules.specs.declared.State.{State}
 use Rattle.formats.specs.declared.Written.{Written}
 use Rattle.streams.specs.declared.ArbiterStretch.{ArbiterStretch}
@@ -20,7 +21,10 @@ use Rattle.streaming.proofs.judge_end.Reads as judge_end
 abbrev Bytes : Type 0
 Bytes = Bor (List ℕ)
 
-module _ (buf out out' : Bytes) where
+abbrev Buffer : Type 0
+Buffer = MutBor (List ℕ)
+
+module _ (buf out out' : Buffer) where
   module _ (κs : Lfts 2) (input : Bytes) where
     pub arbiter_head_unique : (r r' : ArbiterHead)
         → arbiter_head.Post κs (input, (buf, tt)) r (input, (out, tt))

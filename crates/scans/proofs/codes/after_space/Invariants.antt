@@ -1,0 +1,11 @@
+-- `after_space` meets its contract. Measure: the bytes left.
+use Prim.Native.Nat.{◌-◌}
+use lib.ListN.{length}
+use Rattle.scans.proofs.Unknown.{Spacing}
+use Rattle.scans.proofs.codes.after_space.Given as goal
+
+abbrev pub invariant-loop-i : goal.invariant-loop-i
+invariant-loop-i l = Spacing l.s l.p l.i
+
+abbrev pub decreases-loop-i : goal.decreases-loop-i
+decreases-loop-i l = length l.s - l.i
