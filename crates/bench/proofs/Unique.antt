@@ -8,7 +8,7 @@ use prog.Routine.{Routine}
 use types.Logic.{Logic}
 use contract.Lifetimes.{Lfts}
 use contract.Monad.{Fun, fact}
-use denote.Ref.{Bor}
+use denote.MutBor.{MutBor}
 use Rattle.rules.specs.declared.State.{State}
 use Rattle.rules.specs.declared.Inputs.{Inputs}
 use Rattle.rules.specs.Step.{step_of}
@@ -20,7 +20,7 @@ use Rattle.bench.specs.contracts.advance as advance
 abbrev Moves : State → Inputs → Moved → State → Type 0
 Moves s x r t = (r ≡ said_of (step_of s x)) × (t ≡ held_after s (step_of s x))
 
-contract_is : {M : Type 1} {𝓤 : Ura M} (𝓛 : Logic 𝓤) (κs : Lfts 1) (mem : Memory → SProp 𝓤) (run : Routine → Fun 𝓤) (s t : Bor State) (x : Inputs) (r : Moved)
+contract_is : {M : Type 1} {𝓤 : Ura M} (𝓛 : Logic 𝓤) (κs : Lfts 1) (mem : Memory → SProp 𝓤) (run : Routine → Fun 𝓤) (s t : MutBor State) (x : Inputs) (r : Moved)
     → advance.ensures-1 𝓛 κs mem run s x (record { entry = s; exit = t }) (record { entry = x; exit = x }) r ≡ fact 𝓤 (Moves s.now x r t.now)
 contract_is 𝓛 κs mem run s t x r = refl
 

@@ -1,0 +1,13 @@
+-- `stop` meets its contract: refusal 8, the end, or the line of a refusal.
+use Rattle.streams.proofs.Judged.{read_none, read_refused}
+use Rattle.traces.proofs.Taken.{stops_full}
+use Rattle.traces.proofs.stop.Goals as goal
+
+pub returns-in-Line : goal.returns-in-Line
+returns-in-Line c = search stops_full
+
+pub returns-in-NoMore : goal.returns-in-NoMore
+returns-in-NoMore c = search read_none
+
+pub returns-in-Refused : goal.returns-in-Refused
+returns-in-Refused c = search read_refused
