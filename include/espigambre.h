@@ -1,6 +1,6 @@
 /*
  * Espigambre's AHB arbiter and its judge for a C simulator: one bus cycle a call, with the state in bytes that the caller keeps.
- * Link target/staticlib/libhost.a, which `rt staticlib host` writes for x86-64 Linux; it is position independent, and docs/HOST.md has the link lines.
+ * Link target/staticlib/libhost.a, which `bin/archive` writes for x86-64 Linux; it is position independent, and docs/HOST.md has the link lines.
  *
  * Time. A call is one clock cycle. Its inputs are those that stand on the bus in the cycle. Its outputs are those of the same
  * cycle, before the clock edge that ends it: they come from the state that went in and from the inputs, while the state

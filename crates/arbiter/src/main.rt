@@ -1,4 +1,6 @@
 // The arbiter program: a stimulus on standard input, its trace on standard output.
+#![tactic(auto)]
+
 ghost use Rattle.std.specs.Prelude.{◌≡◌, true, false, ◌-◌, ◌%◌, ◌≤◌, ◌<◌, length, drop, take as front};
 ghost use Rattle.rules.specs.State.{reset_state, well_formed};
 ghost use Rattle.formats.specs.declared.Word.TheVariants.{Stim};
@@ -13,12 +15,13 @@ ghost use Rattle.console.specs.Ends.{EndsAfter, Came};
 ghost use Rattle.console.specs.Ran.{Turned, Ran, Begins};
 ghost use Rattle.arbiter.specs.Breaches.{no_breach};
 
-use console::{Ending, Fed};
+use console::{Ending, Fed, Output};
 use rules::State;
+use std::io::{Read, Write};
 use streaming::ArbiterHead;
 
 // After a read: whether the program goes on, how many bytes of a cut line are kept, how it ends if it does not go on, and its state.
-#[derive(Drop)]
+#[derive(Clone, Copy)]
 struct After {
     on: bool,
     kept: usize,
@@ -27,70 +30,84 @@ struct After {
 }
 
 // Lines that were read: they are taken, and what they come to is written.
-fn take(s: State, block: &[u8], out: &mut [u8]) -> After
-    requires { (well_formed s ≡ true) × (arbiter_room block.now ≤ length out.old) }
-    ensures came { Came no_breach (arbiter_stretch s block.now) result.on result.ending }
-    ensures state_value { result.state ≡ kept_after (arbiter_stretch s block.now) }
+fn take<W: Write>(output: &mut Output<W>, s: State, block: &[u8], out: &mut [u8]) -> After
+    requires formed { well_formed s ≡ true }
+    requires room { arbiter_room block.now ≤ length out.old }
+    ensures outcome { Came no_breach (arbiter_stretch s block.now) result.on result.ending }
+    ensures state { result.state ≡ kept_after (arbiter_stretch s block.now) }
 {
     let a = streaming::arbiter_block(s, block, out);
-    let given = console::give(a.written, out);
-    let flow = a.flow;
-    let goes = console::goes_on(flow);
-    let ending = console::ends_as(given, flow, 0);
-    let state = a.state;
+    let given = console::give(output, a.written, out);
+    let goes = console::goes_on(a.flow);
     After {
         on: given & goes,
         kept: 0,
-        ending,
-        state,
+        ending: console::ends_as(given, a.flow, 0),
+        state: a.state,
     }
 }
 
 // The first n bytes of the buffer: their whole lines are taken, and the rest is kept.
-fn go_on(s: State, n: usize, block: &mut [u8], out: &mut [u8]) -> After
-    requires { (well_formed s ≡ true) × Lent 16 31 (length block.old) (length out.old) × (n ≤ length block.old) }
-    ensures came { Came no_breach (arbiter_stretch s (front (n - n % 16) block.old)) result.on result.ending }
-    ensures state_value { result.state ≡ kept_after (arbiter_stretch s (front (n - n % 16) block.old)) }
-    ensures kept_value { (result.kept ≡ n % 16) × (front (n - (n - n % 16)) block.new ≡ drop (n - n % 16) (front n block.old)) }
+fn go_on<W: Write>(
+    output: &mut Output<W>,
+    s: State,
+    n: usize,
+    block: &mut [u8],
+    out: &mut [u8],
+) -> After
+    requires formed { well_formed s ≡ true }
+    requires lent { Lent 16 31 (length block.old) (length out.old) }
+    requires inside { n ≤ length block.old }
+    ensures outcome { Came no_breach (arbiter_stretch s (front (n - n % 16) block.old)) result.on result.ending }
+    ensures state { result.state ≡ kept_after (arbiter_stretch s (front (n - n % 16) block.old)) }
+    ensures kept { result.kept ≡ n % 16 }
+    ensures rest { front (n - (n - n % 16)) block.new ≡ drop (n - n % 16) (front n block.old) }
 {
     let cut = n % 16;
     let whole = n - cut;
-    let t = take(s, console::first(whole, block), out);
+    let t = take(output, s, console::first(whole, block), out);
     console::keep(whole, n, block);
-    let ending = t.ending;
-    let state = t.state;
     After {
         on: t.on,
         kept: cut,
-        ending,
-        state,
+        ending: t.ending,
+        state: t.state,
     }
 }
 
 // The last bytes: nothing comes after them.
-fn take_last(s: State, block: &[u8], out: &mut [u8]) -> After
-    requires { (well_formed s ≡ true) × (arbiter_room block.now ≤ length out.old) }
-    ensures { (result.on ≡ false) × EndsAfter no_breach (arbiter_stretch s block.now) result.ending }
+fn take_last<W: Write>(output: &mut Output<W>, s: State, block: &[u8], out: &mut [u8]) -> After
+    requires formed { well_formed s ≡ true }
+    requires room { arbiter_room block.now ≤ length out.old }
+    ensures off { result.on ≡ false }
+    ensures end { EndsAfter no_breach (arbiter_stretch s block.now) result.ending }
 {
-    let t = take(s, block, out);
-    let ending = t.ending;
-    let state = t.state;
+    let t = take(output, s, block, out);
     After {
         on: false,
         kept: 0,
-        ending,
-        state,
+        ending: t.ending,
+        state: t.state,
     }
 }
 
 // One read, behind the bytes that are kept.
-fn turn(s: State, kept: usize, block: &mut [u8], out: &mut [u8]) -> After
-    requires { (well_formed s ≡ true) × Lent 16 31 (length block.old) (length out.old) × (kept < 16) }
+fn turn<R: Read, W: Write>(
+    input: &mut R,
+    output: &mut Output<W>,
+    s: State,
+    kept: usize,
+    block: &mut [u8],
+    out: &mut [u8],
+) -> After
+    requires formed { well_formed s ≡ true }
+    requires lent { Lent 16 31 (length block.old) (length out.old) }
+    requires cut { kept < 16 }
     ensures { Turned no_breach arbiter_turn (Lines 16) s (front kept block.old) result.on result.state (front result.kept block.new) result.ending }
 {
-    match console::read_on(kept, block) {
-        Fed::More(n) => go_on(s, n, block, out),
-        Fed::Last(n) => take_last(s, console::first(n, block), out),
+    match console::read_on(input, kept, block) {
+        Fed::More(n) => go_on(output, s, n, block, out),
+        Fed::Last(n) => take_last(output, s, console::first(n, block), out),
         Fed::Broken => After {
             on: false,
             kept: 0,
@@ -101,37 +118,49 @@ fn turn(s: State, kept: usize, block: &mut [u8], out: &mut [u8]) -> After
 }
 
 // Read after read, with no bound on their number: each one that goes on brings a byte at least, and the line after 1,000,000 stops the program.
-fn run(start: State, block: &mut [u8], out: &mut [u8]) -> Ending
-    requires { (well_formed start ≡ true) × Lent 16 31 (length block.old) (length out.old) }
+fn run<R: Read, W: Write>(
+    input: &mut R,
+    output: &mut Output<W>,
+    start: State,
+    block: &mut [u8],
+    out: &mut [u8],
+) -> Ending
+    requires formed { well_formed start ≡ true }
+    requires lent { Lent 16 31 (length block.old) (length out.old) }
     ensures { Ran no_breach arbiter_turn (Lines 16) start result }
 {
     let mut state = start;
     let mut kept = 0;
     loop {
-        let t = turn(state, kept, block, out);
+        let t = turn(input, output, state, kept, block, out);
         if !t.on {
             return t.ending;
         }
-        let next = t.state;
-        state = next;
+        state = t.state;
         kept = t.kept;
     }
 }
 
 // The header, and the lines after one that is accepted.
-fn start(n: usize, block: &mut [u8], out: &mut [u8]) -> Ending
+fn start<R: Read, W: Write>(
+    input: &mut R,
+    output: &mut Output<W>,
+    n: usize,
+    block: &mut [u8],
+    out: &mut [u8],
+) -> Ending
     requires { Lent 16 31 (length block.old) (length out.old) }
     ensures { Begins no_breach arbiter_turn (Lines 16) reset_state result (read_header_of Stim (front n block.old)) }
 {
     match streaming::arbiter_head(console::first(n, block), out) {
         ArbiterHead::Begun(w, s) => {
-            if console::give(w, out) {
-                return run(s, block, out);
+            if console::give(output, w, out) {
+                return run(input, output, s, block, out);
             }
             Ending::Unwritten
         }
         ArbiterHead::Refused(w) => {
-            if console::give(w, out) {
+            if console::give(output, w, out) {
                 return Ending::Refused;
             }
             Ending::Unwritten
@@ -141,13 +170,15 @@ fn start(n: usize, block: &mut [u8], out: &mut [u8]) -> Ending
 }
 
 // 2,048 lines at a time, and room for a trace line for each and for one line more.
-fn main() {
+fn main(rt: HostRuntime) {
+    let mut input = rt.stdin();
+    let mut output = Output::new(rt.stdout());
     let mut block = [0u8; 32768];
     let mut out = [0u8; 63519];
-    let ending = match console::read_head(9, &mut block) {
-        Fed::More(n) => start(n, &mut block, &mut out),
-        Fed::Last(n) => start(n, &mut block, &mut out),
+    let ending = match console::read_head(&mut input, 9, &mut block) {
+        Fed::More(n) => start(&mut input, &mut output, n, &mut block, &mut out),
+        Fed::Last(n) => start(&mut input, &mut output, n, &mut block, &mut out),
         Fed::Broken => Ending::Unread,
     };
-    console::tell(ending);
+    console::tell(&rt, ending, output);
 }

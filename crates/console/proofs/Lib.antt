@@ -1,4 +1,2 @@
 pub mod Onwards
-pub mod Moved
-pub mod Filled
 pub mod Ends
