@@ -12,7 +12,7 @@ use mathlib.Core.Bool.{Bool, true, false, ◌&&◌, cond, true≢false, false≢
 use mathlib.Core.List.{List, []}
 use native.Mathlib.Omega.{arith}
 use borrow.Author.Tests.{le-ltb, leb-true}
-use lib.Dec.{leb, ltb}
+use lib.Dec.{leb}
 use lib.ListN.{length, take}
 use Rattle.rules.specs.declared.Refusal.{Refusal}
 use Rattle.rules.specs.Codes.{fewest_masters, most_masters, most_cycles}

@@ -6,7 +6,7 @@ use Rattle.judge.proofs.turn.Goals as goal
 
 pub take_last-requires-clause-room : goal.take_last-requires-clause-room
 take_last-requires-clause-room g c =
-    (roomy _ _ c.in-Last.n _ _ c.requires.formed (again c.requires.lent (omega arith) (omega arith)) c.first.ensures).1
+    (roomy _ _ _ _ _ c.requires.formed (again c.requires.lent (omega arith) (omega arith)) c.first.ensures).1
 
 pub returns-in-More-clause-turned : goal.returns-in-More-clause-turned
 returns-in-More-clause-turned g c =

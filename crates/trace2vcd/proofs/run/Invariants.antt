@@ -1,5 +1,5 @@
 -- `run` ends: what is left of 1,000,001 lines becomes less with each turn that goes on. The buffers keep their lengths.
-use Rattle.std.proofs.Common.{◌≡◌, ◌+◌, ◌*◌, ◌-◌, ◌<◌, length, take, true, []}
+use Rattle.std.proofs.Common.{◌≡◌, ◌+◌, ◌*◌, ◌-◌, ◌<◌, take, true, []}
 use Rattle.rules.specs.Codes.{most_cycles}
 use Rattle.conversions.specs.Positions.{position_formed}
 use Rattle.conversions.specs.Dumping.{dump_turn}

@@ -1,5 +1,5 @@
 -- `run` ends: with each turn that goes on there are fewer steps to come, or the bytes that are kept have become more. The buffers keep their lengths.
-use Rattle.std.proofs.Common.{◌≡◌, ◌+◌, ◌*◌, ◌-◌, ◌≤◌, length, take, true, []}
+use Rattle.std.proofs.Common.{◌≡◌, ◌+◌, ◌*◌, ◌-◌, ◌≤◌, take, true, []}
 use Rattle.rules.specs.Codes.{most_cycles}
 use Rattle.conversions.specs.Positions.{position_formed}
 use Rattle.conversions.specs.Undumping.{undump_turn}
