@@ -1,4 +1,6 @@
 // The arbiter of document 01, one cycle at a time: the state goes in by value and comes back.
+#![tactic(auto)]
+
 ghost use Rattle.std.specs.Prelude.{◌≡◌, ◌<◌};
 ghost use Rattle.rules.specs.declared.Check.TheVariants.{Good};
 ghost use Rattle.rules.specs.Codes.{most_cycles};

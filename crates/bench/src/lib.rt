@@ -1,4 +1,6 @@
 // The bench's caller: one arbiter state, moved on where it stands by the plain step.
+#![tactic(auto)]
+
 ghost use Rattle.std.specs.Prelude.{◌≡◌};
 ghost use Rattle.rules.specs.Step.{step_of};
 ghost use Rattle.bench.specs.Bench.{said_of, held_after};

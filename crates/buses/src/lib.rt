@@ -1,4 +1,6 @@
 // The arbiter's cycle, on a state of plain numbers that fits into registers.
+#![tactic(auto)]
+
 mod course;
 mod walk;
 

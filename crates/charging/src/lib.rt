@@ -1,4 +1,6 @@
 // What the judge charges at one cycle, as one number: bit i is that of the i-th rule, in the order of the report.
+#![tactic(auto)]
+
 mod flags;
 
 ghost use Rattle.std.specs.Prelude.{◌≡◌, ◌&&◌, [], ◌∷◌, map, ◌≤◌, ◌<◌};

@@ -2,10 +2,10 @@
 // and what the functions that only sort an answer return.
 #![tactic(auto)]
 
-ghost use Rattle.std.specs.Prelude.{◌≡◌, ◌-◌, ◌≤◌, ◌<◌, take, drop, length, cond};
+ghost use Rattle.std.specs.Prelude.{◌≡◌, ◌-◌, ◌≤◌, ◌<◌, take, drop, length};
 ghost use Rattle.console.specs.Fed.{Fill};
 ghost use Rattle.console.specs.Going.{goes_on_after};
-ghost use Rattle.console.specs.Ends.{letter_of, ending_of};
+ghost use Rattle.console.specs.Ends.{letter_of, told_of, ending_of};
 
 use std::fs::OpenOptions;
 use std::io::{ErrorKind, Read, Write};
@@ -181,22 +181,24 @@ pub fn ends_as(given: bool, f: Flow, breaches: u32) -> Ending
     }
 }
 
-fn letter(e: Ending, unheard: bool) -> u8
-    ensures { result ≡ letter_of e unheard }
+fn letter(e: Ending) -> u8
+    ensures { result ≡ letter_of e }
 {
     match e {
         Ending::Done => b'0',
         Ending::Breaches => b'1',
         Ending::Refused => b'2',
         Ending::Unread => b'r',
-        Ending::Unwritten => unwritten(unheard),
+        Ending::Unwritten => b'w',
     }
 }
 
-fn unwritten(unheard: bool) -> u8
-    ensures { result ≡ cond unheard 112 119 }
+// The letter, where nobody reads the output any more or not.
+fn told(e: Ending, unheard: bool) -> u8
+    ensures { result ≡ told_of e unheard }
 {
-    if unheard { b'p' } else { b'w' }
+    let word = letter(e);
+    if unheard & (word == b'w') { b'p' } else { word }
 }
 
 // The descriptor that whoever started the program listens on.
@@ -204,7 +206,7 @@ const LISTENER: &str = "/dev/fd/3";
 
 // Tells whoever started the program how it ended: one letter on descriptor 3. Where nobody listens there, nothing is told.
 pub fn tell<F: Files, W: Drop>(files: &F, e: Ending, output: Output<W>) {
-    let word = [letter(e, output.unheard)];
+    let word = [told(e, output.unheard)];
     if listens(files) {
         if let Ok(mut to) = OpenOptions::new().append(true).open(files, LISTENER) {
             let _ = to.write(&word);

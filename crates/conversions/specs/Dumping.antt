@@ -2,7 +2,7 @@
 --
 --   dump_turn p rest    == one trace line: it is read, and its step is written
 --   dump_program s      == all that the program writes for the input s
-use Rattle.std.specs.Prelude.{ℕ, suc, ◌+◌, cond, List, [], ◌++◌, leb, length, drop}
+use Rattle.std.specs.Prelude.{ℕ, suc, cond, List, [], ◌++◌, leb, length, drop}
 use Rattle.rules.specs.declared.Refusal.TheVariants as refusal
 use Rattle.rules.specs.Codes.{most_cycles}
 use Rattle.formats.specs.declared.Word.TheVariants.{Trace}

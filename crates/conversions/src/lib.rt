@@ -1,4 +1,6 @@
 // What the programs trace2vcd and vcd2trace keep from one block of input to the next. What they write stands in specs/.
+#![tactic(auto)]
+
 use rules::Cycle;
 use streams::Flow;
 

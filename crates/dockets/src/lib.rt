@@ -1,4 +1,6 @@
 // The judge's state in the first 42 bytes of a lent slice, seen as a judge.
+#![tactic(auto)]
+
 mod reading;
 
 ghost use Rattle.std.specs.Prelude.{◌≡◌, ◌≤◌, length};

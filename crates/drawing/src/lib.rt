@@ -1,5 +1,7 @@
 // Trace lines drawn as steps: a header and a block, as trace2vcd takes them. Where the conversion stands goes in by value and comes back,
 // and what it writes goes into a lent buffer.
+#![tactic(auto)]
+
 mod block;
 
 ghost use Rattle.std.specs.Prelude.{◌≡◌, true, ◌≤◌, length};

@@ -1,4 +1,6 @@
 // A dump written: its header, and a step, into a lent buffer. Nothing is written before the last test.
+#![tactic(auto)]
+
 mod lines;
 mod times;
 

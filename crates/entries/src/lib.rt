@@ -1,4 +1,6 @@
 // The judge's state written into the first 42 bytes of a lent slice, and its mask into the first four of another.
+#![tactic(auto)]
+
 mod parts;
 
 ghost use Rattle.std.specs.Prelude.{◌≡◌, ◌≤◌, length};

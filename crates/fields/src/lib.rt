@@ -1,4 +1,6 @@
 // The test of n, and the parts of a line at a position: hex columns read and written, separators tested.
+#![tactic(auto)]
+
 pub mod text;
 
 ghost use Rattle.std.specs.Prelude.{◌≡◌, ◌+◌, ◌<◌, ◌≤◌, [], ◌∷◌, ◌++◌, length, if◌then◌else◌, nat_lt};

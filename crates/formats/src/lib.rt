@@ -1,4 +1,6 @@
 // The answers of the readers and writers. What a line, a header and a report say stands in specs/.
+#![tactic(auto)]
+
 use rules::{Cycle, Inputs, Refusal};
 
 // The word that a header begins with.

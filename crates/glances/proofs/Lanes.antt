@@ -5,7 +5,7 @@
 --   mask_of h i j k  == the mask without the h, i, j and k low bits of the lanes
 --   Low x h i j k   == the lanes of x have no bits but those
 --   low_clear, clear_low == x is so exactly where the mask leaves nothing
-use Rattle.std.proofs.Common.{◌≡◌, ℕ, ◌+◌, ◌-◌, ◌*◌, ◌/◌, ◌%◌, ◌^◌, ◌<◌, ◌≤◌, sym, refl, ap, ◌∙◌, mod-eq_of_lt, zero-mul, arith, pow_pos, shr-shr, shr_lt}
+use Rattle.std.proofs.Common.{◌≡◌, ℕ, ◌+◌, ◌-◌, ◌*◌, ◌/◌, ◌%◌, ◌^◌, ◌<◌, ◌≤◌, sym, ap, ◌∙◌, mod-eq_of_lt, zero-mul, arith, pow_pos, shr-shr, shr_lt}
 use native.Mathlib.Nat.{zero-mod, zero-div}
 use lib.Bits.{bit_and, and_block, and_high}
 use lib.Pow.{shl-shr}

@@ -3,7 +3,7 @@
 --   masters_below == n is 16 at most
 --   stimulus_seen == of a stimulus line
 --   trace_seen    == of a trace line
-use Rattle.std.proofs.Common.{◌≡◌, ℕ, ◌/◌, ◌^◌, ◌<◌, ◌≤◌, Bool, true, false, ◌&&◌, eqb, ltb, ◌↔◌, List, length, get_or, sym, refl, ap, ◌∙◌, arith, ltb-true, lt-ltb, eq-eqb, eqb-true}
+use Rattle.std.proofs.Common.{◌≡◌, ℕ, ◌/◌, ◌^◌, ◌<◌, ◌≤◌, Bool, true, ◌&&◌, eqb, ltb, ◌↔◌, List, length, get_or, sym, refl, ap, ◌∙◌, arith, ltb-true, lt-ltb, eq-eqb, eqb-true}
 use lib.Bits.{bit_or, or_lt}
 use Rattle.rules.specs.declared.Inputs.{Inputs}
 use Rattle.rules.specs.declared.Outputs.{Outputs}
@@ -15,7 +15,7 @@ use Rattle.formats.specs.Digits.{tab, lf, number_at}
 use Rattle.formats.specs.Files.{one, as_stimulus, as_trace}
 use Rattle.formats.specs.declared.StimulusRead.TheVariants.{Line as StimulusLine}
 use Rattle.formats.specs.declared.TraceRead.TheVariants.{Line as TraceLine}
-use Rattle.formats.specs.Lines.{inputs_at, outputs_at, cycle_at, read_stimulus_of, read_trace_of}
+use Rattle.formats.specs.Lines.{inputs_at, outputs_at, read_stimulus_of, read_trace_of}
 use Rattle.formats.proofs.Limits.{ok_range}
 use Rattle.formats.proofs.Lines.{stimulus, trace, stimulus_reading, trace_reading, stimulus_answer_lem, trace_answer_lem}
 use Rattle.glances.specs.declared.codes.Codes.{Codes}

@@ -1,5 +1,7 @@
 // Lines at a glance: whether a line is good, and its columns if so, with few tests. Which refusal another line gets the readers of
 // `lines` say.
+#![tactic(auto)]
+
 mod codes;
 mod put;
 mod table;

@@ -1,4 +1,6 @@
 // The header of a stimulus or a trace, and the lines of the report. Nothing is written before the last test.
+#![tactic(auto)]
+
 ghost use Rattle.std.specs.Prelude.{◌≡◌, cond, [], ◌∷◌, ◌++◌, ◌-◌, ◌≤◌, length};
 ghost use Rattle.rules.specs.declared.Refusal.TheVariants.{Header};
 ghost use Rattle.formats.specs.declared.HeaderRead.TheVariants.{Refused};

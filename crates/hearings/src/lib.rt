@@ -1,4 +1,6 @@
 // The judge over lent bytes: its start, and one recorded cycle.
+#![tactic(auto)]
+
 ghost use Rattle.std.specs.Prelude.{◌≡◌, ◌≤◌, length};
 ghost use Rattle.rules.specs.Codes.{most_masters};
 ghost use Rattle.rulebook.specs.Step.{judge_of};

@@ -1,4 +1,6 @@
 // The step and the reset, exported to a C simulator. include/espigambre.h declares them for C.
+#![tactic(auto)]
+
 mod judge;
 
 ghost use Rattle.std.specs.Prelude.{◌≡◌, ◌+◌, ◌*◌, ◌≤◌, length};

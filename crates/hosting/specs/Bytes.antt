@@ -9,7 +9,7 @@
 --   state_bytes s == the bytes of the state s
 --   is_state b    == b begins with the bytes of a state, well formed or not
 --   bytes_state b == the state whose bytes b begins with, if there is one
-use Rattle.std.specs.Prelude.{ℕ, Bool, ◌&&◌, ◌||◌, cond, List, [], ◌∷◌, eqb, leb, get_or}
+use Rattle.std.specs.Prelude.{ℕ, Bool, ◌&&◌, ◌||◌, cond, List, ◌∷◌, eqb, leb, get_or}
 use Rattle.rules.specs.declared.Phase.{Phase}
 use Rattle.rules.specs.declared.Phase.TheVariants.{Fresh, Fixed, Open, Done}
 use Rattle.rules.specs.declared.State.{State}

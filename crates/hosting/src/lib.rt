@@ -1,4 +1,6 @@
 // What a C simulator lends and gets. What each byte and each call means stands in specs/.
+#![tactic(auto)]
+
 use rules::{Cycle, Refusal, State};
 
 // What lent state bytes are: a state, well formed or not, or bytes that no state has.

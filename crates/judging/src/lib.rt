@@ -1,4 +1,6 @@
 // The judge of document 01, one cycle at a time: its state goes in by value and comes back.
+#![tactic(auto)]
+
 mod form;
 
 ghost use Rattle.std.specs.Prelude.{◌≡◌, true, ◌<◌};

@@ -1,4 +1,6 @@
 // What the judge keeps from one cycle to the next.
+#![tactic(auto)]
+
 pub mod columns;
 mod counts;
 mod watch;

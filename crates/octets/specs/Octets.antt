@@ -5,7 +5,7 @@
 --   place_of v          == the four of v side by side, in bits of 1, 1, 2 and 2: 64 places
 --   fitting l a p k    == a well-formed state may have the bytes l, a, p and k there
 --   Holds b h          == h is what b holds
-use Rattle.std.specs.Prelude.{ℕ, ◌+◌, ◌*◌, ◌/◌, ◌%◌, ◌≤◌, ◌≡◌, Bool, true, ◌&&◌, ◌||◌, List, eqb, leb}
+use Rattle.std.specs.Prelude.{ℕ, ◌+◌, ◌*◌, ◌/◌, ◌%◌, ◌≡◌, Bool, true, ◌&&◌, ◌||◌, List, eqb, leb}
 use Rattle.rules.specs.State.{phase_ok, well_formed}
 use Rattle.buses.specs.Buses.{state_from, Fit}
 use Rattle.hosting.specs.Bytes.{phase_of, is_state, state_in}

@@ -1,4 +1,6 @@
 // The arbiter's state in the first twelve bytes of a lent slice: seen as plain numbers, and written from them.
+#![tactic(auto)]
+
 ghost use Rattle.std.specs.Prelude.{◌≡◌, true, ◌%◌, ◌/◌, ◌≤◌, ◌<◌, length};
 ghost use Rattle.rules.specs.State.{WellFormed};
 ghost use Rattle.buses.specs.Buses.{phase_from, phase_number, state_from, Fit};

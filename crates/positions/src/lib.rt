@@ -1,4 +1,6 @@
 // Where a conversion stands: at its start, and whether a position is well formed.
+#![tactic(auto)]
+
 ghost use Rattle.std.specs.Prelude.{◌≡◌};
 ghost use Rattle.conversions.specs.Positions.{start_at, position_formed};
 

@@ -5,7 +5,7 @@
 --   drawn_lines    == all the lines that are left, and then what the rest comes to
 --   drawn_program  == the header, the lines, and then the rest
 use Prim.Native.Nat.{ℕ, zero, suc, ◌+◌, ◌≤◌, ◌<◌}
-use mathlib.Core.Path.{◌≡◌, sym, ◌∙◌, ap, subst}
+use mathlib.Core.Path.{◌≡◌, sym, ◌∙◌, ap}
 use mathlib.Core.List.{List, [], ◌∷◌, ◌++◌, append_assoc}
 use native.Mathlib.Nat.{add-zero}
 use native.Mathlib.Omega.{arith}
@@ -28,7 +28,7 @@ use Rattle.waves.specs.Steps.{dump_step}
 use Rattle.waves.specs.Files.{no_cycle, steps_of, dump}
 use Rattle.conversions.specs.declared.Position.{Position}
 use Rattle.conversions.specs.Dumping.{drawn, dump_turn, first_line, dump_after, dump_program}
-use Rattle.conversions.specs.Positions.{start_at, after}
+use Rattle.conversions.specs.Positions.{start_at}
 use Rattle.promises.specs.Waves.{last_of}
 use Rattle.promises.proofs.Lines.{one_line, file_fuel}
 

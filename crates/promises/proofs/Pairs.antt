@@ -20,7 +20,7 @@ use Rattle.rules.proofs.Choice.{either, order, differ}
 use Rattle.rules.proofs.Winner.{winner_ended}
 use Rattle.rules.proofs.Taken.{Taken, decide, next_g, next_m, next_lock}
 use Rattle.rules.proofs.Decision.{decides_low, chosen_zero}
-use Rattle.rulebook.specs.Columns.{granted, request, lock, grant, some_below, some_master}
+use Rattle.rulebook.specs.Columns.{request, lock, grant, some_below, some_master}
 use Rattle.rulebook.specs.Rules.{differ as differs, g1, g4, g5, g6, g7, g8, g9, g10}
 use Rattle.rulebook.proofs.Counts.{some_none}
 use Rattle.promises.proofs.Served.{falls_when_ready, grant_kept, grant_won, granted_raised, granted_falls}

@@ -20,7 +20,7 @@ use Rattle.rules.specs.declared.Inputs.{Inputs}
 use Rattle.rules.specs.declared.Outputs.{Outputs}
 use Rattle.rules.specs.declared.Cycle.{Cycle}
 use Rattle.rules.specs.declared.Seen.{Seen}
-use Rattle.rules.specs.Codes.{ready, nonseq, burst_of}
+use Rattle.rules.specs.Codes.{ready, burst_of}
 use Rattle.rules.specs.State.{phase_ok}
 use Rattle.rules.specs.Phase.{seen, phase_opened, phase_low, phase_after}
 use Rattle.rules.proofs.Choice.{either, and_left, and_right}

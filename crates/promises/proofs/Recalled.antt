@@ -7,12 +7,12 @@
 --   recalled_steps == all the steps that are left, and then what the rest comes to
 --   recalled_program == the header, the steps, and then the rest
 use Prim.Native.Nat.{ℕ, zero, suc, ◌+◌, ◌≤◌, ◌<◌}
-use mathlib.Core.Path.{◌≡◌, refl, sym, ◌∙◌, ap, subst}
-use mathlib.Core.Logic.{inl, inr}
+use mathlib.Core.Path.{◌≡◌, sym, ◌∙◌, ap}
+use mathlib.Core.Logic.{inr}
 use mathlib.Core.List.{List, [], ◌∷◌, ◌++◌, append_assoc}
 use native.Mathlib.Nat.{add-zero}
 use native.Mathlib.Omega.{arith}
-use lib.ListN.{length, take, length-append}
+use lib.ListN.{length, length-append}
 use lib.Seq.{drop-append_seam, take-append_seam}
 use Rattle.rules.specs.declared.Cycle.{Cycle}
 use Rattle.rules.specs.Codes.{most_cycles}
@@ -31,7 +31,6 @@ use Rattle.waves.specs.Promises.{Ends}
 use Rattle.waves.proofs.StepTexts.{step_head, step_long}
 use Rattle.waves.proofs.Near.{lines_append, end_reads}
 use Rattle.waves.proofs.Promises.{written_step_reads, written_dump_header_reads}
-use Rattle.conversions.specs.declared.Position.{Position}
 use Rattle.conversions.specs.Positions.{start_at}
 use Rattle.conversions.specs.Undumping.{recalled, undump_turn, first_step, undump_after, undump_program}
 use Rattle.promises.specs.Waves.{last_of, Behind}

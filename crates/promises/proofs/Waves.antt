@@ -17,7 +17,7 @@ use Rattle.formats.specs.declared.TraceRead.{TraceRead}
 use Rattle.formats.specs.declared.TraceRead.TheVariants.{Line, NoMore, Refused}
 use Rattle.formats.specs.Digits.{lf, decimal_before, decimal}
 use Rattle.formats.specs.Lines.{read_trace_of}
-use Rattle.formats.specs.Files.{complete, as_trace, trace_file}
+use Rattle.formats.specs.Files.{as_trace, trace_file}
 use Rattle.formats.specs.Report.{refused_line}
 use Rattle.formats.specs.Texts.{bytes}
 use Rattle.formats.specs.Promises.{Each}

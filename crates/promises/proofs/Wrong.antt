@@ -1,8 +1,8 @@
 -- Each of the four wrong arbiters breaks a promise. At most one run of each is needed: eleven ready cycles with two masters, in which both
 -- request from the start and nobody locks.
 --
---   *-is-shut-out     == all the promises together
---   *-leaves-the-page == FollowsThePage alone, of the three that take a cycle
+--   *_is_shut_out     == all the promises together
+--   *_leaves_the_page == FollowsThePage alone, of the three that take a cycle
 use Prim.Native.Nat.{ℕ, ◌<◌}
 use mathlib.Core.Path.{◌≡◌, refl, sym, ◌∙◌, ap}
 use mathlib.Core.Bool.{Bool, true, false, false≢true}

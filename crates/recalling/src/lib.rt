@@ -1,4 +1,6 @@
 // Steps recalled as trace lines: a header and a block, as vcd2trace takes them, and where a block is cut.
+#![tactic(auto)]
+
 mod cuts;
 mod steps;
 

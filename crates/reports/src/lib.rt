@@ -1,4 +1,6 @@
 // The lines that the two programs write, into a buffer that has room for them: a header, a refusal, an end, the breaches of a cycle.
+#![tactic(auto)]
+
 ghost use Rattle.std.specs.Prelude.{◌≡◌, true, ◌^◌, ◌≤◌, ◌<◌, length, get_or};
 ghost use Rattle.rules.specs.State.{masters_ok};
 ghost use Rattle.rulebook.specs.declared.Rule.TheVariants.{A1};

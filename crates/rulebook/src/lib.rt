@@ -1,4 +1,6 @@
 // The rules, and what the judge keeps from one cycle to the next. What each rule means stands in specs/.
+#![tactic(auto)]
+
 use rules::{Cycle, Refusal};
 
 // In the order of the report.

@@ -1,10 +1,9 @@
 -- The promises of specs/Promises.antt, each proved by the law of its name.
-use Prim.Native.Nat.{ℕ}
 use mathlib.Core.Path.{◌≡◌, refl, sym, ◌∙◌, ap}
-use mathlib.Core.Logic.{◌⊎◌, inl, inr}
-use mathlib.Core.Bool.{Bool, true, false, not, and-false}
+use mathlib.Core.Logic.{inl, inr}
+use mathlib.Core.Bool.{Bool, true, false, and-false}
 use native.Mathlib.Omega.{arith}
-use borrow.Author.Tests.{le-leb, lt-leb, eq-eqb}
+use borrow.Author.Tests.{le-leb, lt-leb}
 use lib.Dec.{leb}
 use Rattle.rules.specs.declared.Refusal.{Refusal}
 use Rattle.rules.specs.declared.Refusal.TheVariants as refusal
@@ -20,11 +19,11 @@ use Rattle.rules.specs.declared.Answer.{Answer}
 use Rattle.rules.specs.declared.Answer.TheVariants.{Next, Refused}
 use Rattle.rules.specs.Refusals.{number_of, answer_of, state_of, outputs_of}
 use Rattle.rules.specs.Codes.{most_cycles, burst_of}
-use Rattle.rules.specs.Valid.{inputs_too_large, inputs_not_built, inputs_absent, inputs_check}
+use Rattle.rules.specs.Valid.{inputs_check}
 use Rattle.rules.specs.State.{well_formed}
 use Rattle.rules.specs.Phase.{seen, opens_later, decides}
 use Rattle.rules.specs.Step.{chosen, moved, flag_of, shown, accepted, step_of}
-use Rattle.rules.specs.Promises.{Accepted, TakenOnlyThen, HandsBackByNumber, NumberOf, FirstTestAnswers, ElevenForNobody, ProtectedKind, NoDecisionInTheWait}
+use Rattle.rules.specs.Promises.{Accepted, TakenOnlyThen, HandsBackByNumber, FirstTestAnswers, ElevenForNobody, ProtectedKind, NoDecisionInTheWait}
 use Rattle.rules.proofs.WellFormed.{facts_of, test_of}
 use Rattle.rules.proofs.Taken.{taken, decide, next_g}
 use Rattle.rules.proofs.Total.{never_refused}

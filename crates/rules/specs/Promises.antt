@@ -4,7 +4,7 @@
 --   Accepted s x       == nothing is refused, and the step is the one of the page
 --   NumberOf s x       == the number that the step answers, test by test
 --   ProtectedKind s x  == the burst is of a protected kind, by its code
-use Rattle.std.specs.Prelude.{ℕ, ◌≤◌, ◌<◌, ◌≡◌, ◌⊎◌, Bool, true, false}
+use Rattle.std.specs.Prelude.{◌≤◌, ◌<◌, ◌≡◌, ◌⊎◌, Bool, true, false}
 use Rattle.rules.specs.declared.Check.TheVariants.{Good}
 use Rattle.rules.specs.declared.Found.TheVariants.{At, Nothing}
 use Rattle.rules.specs.declared.Phase.TheVariants.{Fresh}

@@ -9,7 +9,7 @@
 --   heard a            == what the definitions answer: the number, the state that a reset begins with or a refused step hands back
 --   wanted a           == what the page says: the number, and of a refused step the state as it came
 --   named, numbers     == the refusals, and their numbers
---   table, all-numbers == they agree (proofs/Refused.antt)
+--   table, all_numbers == they agree (proofs/Refused.antt)
 use Rattle.std.specs.Prelude.{ℕ, Bool, true, false, List, [], ◌∷◌}
 use Rattle.rules.specs.declared.Refusal.{Refusal}
 use Rattle.rules.specs.declared.Refusal.TheVariants as refusal

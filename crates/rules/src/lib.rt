@@ -1,4 +1,5 @@
 // The types of document 01. What each of its sentences means stands in specs/, over these.
+#![tactic(auto)]
 
 // The refusals, in the order of their numbers, 1 to 14.
 #[derive(Clone, Copy)]

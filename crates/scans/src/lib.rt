@@ -1,4 +1,6 @@
 // A dump read: its header, and a step at a position. Each test is of the whole step.
+#![tactic(auto)]
+
 mod bytes;
 mod codes;
 mod header;

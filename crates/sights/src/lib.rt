@@ -1,4 +1,6 @@
 // The good steps of a dump, read with few tests. Which refusal another step gets the reader of `scans` says.
+#![tactic(auto)]
+
 mod columns;
 mod time;
 

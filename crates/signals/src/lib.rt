@@ -1,4 +1,6 @@
 // The leaves of the model: a burst code sorted, the bits of a mask, and what is valid for n.
+#![tactic(auto)]
+
 ghost use Rattle.std.specs.Prelude.{◌≡◌, Bool, cond, ltb};
 ghost use Rattle.rules.specs.Refusals.{number_of, first_of};
 ghost use Rattle.rules.specs.Codes.{burst_of, no_code, not_built};

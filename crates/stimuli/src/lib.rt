@@ -1,4 +1,6 @@
 // A block of stimulus lines through the arbiter, line after line: the trace line of each cycle, and the end of the program at a line that is not taken.
+#![tactic(auto)]
+
 ghost use Rattle.std.specs.Prelude.{◌≡◌, true, false, ◌≤◌, ◌<◌, length};
 ghost use Rattle.rules.specs.Codes.{most_cycles};
 ghost use Rattle.rules.specs.State.{WellFormed};

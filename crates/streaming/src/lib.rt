@@ -1,4 +1,6 @@
 // The two programs, block by block: what they keep goes in by value and comes back, and what they write goes into a lent buffer.
+#![tactic(auto)]
+
 ghost use Rattle.std.specs.Prelude.{◌≡◌, true, ◌≤◌, length};
 ghost use Rattle.rules.specs.Codes.{most_cycles};
 ghost use Rattle.rules.specs.State.{masters_ok, reset_state};

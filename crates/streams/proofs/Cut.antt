@@ -4,7 +4,7 @@
 --   cut            == a block that may be cut, and then the rest
 --   tail           == a last block, which may be cut, and then the end
 --   in_blocks      == any number of blocks that may be cut, and a last one
-use Prim.Native.Nat.{ℕ, zero, suc, ◌+◌, ◌*◌, ◌≤◌, ◌<◌}
+use Prim.Native.Nat.{ℕ, zero, suc, ◌+◌, ◌≤◌, ◌<◌}
 use mathlib.Core.Path.{◌≡◌, refl, ◌∙◌, ap}
 use mathlib.Core.List.{List, [], ◌∷◌, ◌++◌, append_assoc}
 use native.Mathlib.Omega.{arith}

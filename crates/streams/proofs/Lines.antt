@@ -9,7 +9,7 @@ use mathlib.Core.Path.{◌≡◌, refl, ◌∙◌}
 use mathlib.Core.Bool.{true, false≢true}
 use mathlib.Core.List.{List, [], ◌∷◌}
 use native.Mathlib.Omega.{arith}
-use lib.ListN.{length, drop, length-drop}
+use lib.ListN.{length, length-drop}
 use Rattle.streams.specs.Streams.{Turn, goes, stops}
 use Rattle.streams.specs.Turns.{goes_on, taken_by}
 use Rattle.streams.specs.Blocks.{Whole, Stepping, Cutting, ByLines, AllCut, AllWhole}

@@ -1,4 +1,6 @@
 // What the programs keep from one block of input to the next. What they write stands in specs/.
+#![tactic(auto)]
+
 use rulebook::Judge;
 use rules::State;
 

@@ -1,4 +1,6 @@
 // A block of trace lines through the judge, line after line: the breaches of each cycle, and the end of the program at a line that is not taken.
+#![tactic(auto)]
+
 ghost use Rattle.std.specs.Prelude.{◌≡◌, true, false, ◌≤◌, ◌<◌, length};
 ghost use Rattle.rules.specs.declared.Check.TheVariants.{Good};
 ghost use Rattle.rules.specs.Codes.{most_cycles};

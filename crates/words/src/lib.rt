@@ -1,4 +1,6 @@
 // Bytes as one number, low byte first. The compiler makes one load, or one store, of each.
+#![tactic(auto)]
+
 ghost use Rattle.std.specs.Prelude.{◌≡◌, [], ◌∷◌, ◌≤◌, length};
 ghost use Rattle.std.proofs.lemmas.List.Edits.{sets};
 ghost use Rattle.words.specs.Words.{low_first, number_low};

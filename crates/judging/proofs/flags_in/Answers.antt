@@ -1,5 +1,4 @@
 -- `flags_in` meets its contract. The loop's invariant: the digits below i are stored. The measure: the digits left.
-use Prim.Native.Nat.{◌-◌}
 use Rattle.judging.proofs.Digits.{spread_next, spread_all}
 use Rattle.judging.proofs.flags_in.Goals as goal
 

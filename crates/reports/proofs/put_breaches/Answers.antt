@@ -1,5 +1,4 @@
 -- `put_breaches` meets its contract. The loop's invariant: the lines of the rules below i are written. The measure: the rules left.
-use Prim.Native.Nat.{◌-◌}
 use borrow.Author.Rules.{rules}
 use Rattle.reports.proofs.Reports.{inside, not_none, one_more, all_reported}
 use Rattle.reports.proofs.put_breaches.Goals as goal

@@ -1,5 +1,4 @@
 -- `lost_in` meets its contract. Invariant: the counts below i are read. Measure: the counts left.
-use Prim.Native.Nat.{◌-◌}
 use Rattle.dockets.proofs.Parts.{read_next}
 use Rattle.dockets.proofs.reading.lost_in.Goals as goal
 

@@ -1,8 +1,7 @@
 -- `run` meets its contract. The loop's invariant: the block is taken so far, and where the loop is to end, the next line is not taken.
 -- The measure: what is left of the block, and whether the loop goes on.
-use Prim.Native.Nat.{◌-◌}
 use mathlib.Core.Path.{refl, sym, ◌∙◌}
-use mathlib.Core.Bool.{false, true≢false}
+use mathlib.Core.Bool.{true≢false}
 use native.Mathlib.Omega.{arith}
 use borrow.Author.Tests.{ltb-true}
 use Rattle.rules.proofs.Choice.{and_left, and_right}

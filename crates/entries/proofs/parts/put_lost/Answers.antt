@@ -1,5 +1,5 @@
 -- `put_lost` meets its contract. Invariant: the counts below i are written. Measure: the counts left.
-use Prim.Native.Nat.{◌-◌, ◌<◌}
+use Prim.Native.Nat.{◌<◌}
 use native.Mathlib.Omega.{arith}
 use lib.ListN.{length-set}
 use Rattle.entries.proofs.Stored.{next_store}

@@ -1,5 +1,5 @@
 -- `put_decimal` meets its contract. Invariant: the digits written are the number's last ones. Measure: the rest.
-use Rattle.std.proofs.Common.{◌≡◌, ℕ, ◌+◌, ◌-◌, List, length}
+use Rattle.std.proofs.Common.{◌≡◌, ℕ, ◌+◌, List, length}
 use lib.Seq.{sets}
 use Rattle.fields.proofs.Decimals.{Part}
 use Rattle.fields.proofs.text.put_decimal.Given as goal

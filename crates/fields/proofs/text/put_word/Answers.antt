@@ -1,5 +1,5 @@
 -- `put_word` meets its contract. Invariant: the bytes passed are written. Measure: the bytes left.
-use Rattle.std.proofs.Common.{◌≡◌, ◌+◌, ◌-◌, ◌<◌, length, take, refl, add-one, arith, length-set, length-take-le, take-suc}
+use Rattle.std.proofs.Common.{◌≡◌, ◌+◌, ◌<◌, length, take, refl, add-one, arith, length-set, length-take-le, take-suc}
 use Rattle.fields.proofs.Stores.{then_sets}
 use Rattle.fields.proofs.text.put_word.Goals as goal
 

@@ -1,5 +1,4 @@
 -- `some_lost` meets its contract. Invariant: whether some master below i has lost. Measure: the masters left.
-use Prim.Native.Nat.{◌-◌}
 use mathlib.Core.Path.{refl}
 use native.Mathlib.Omega.{arith}
 use Rattle.rulebook.specs.Columns.{some_below}

@@ -1,5 +1,4 @@
 -- `count_lost` meets its contract. Invariant: the counts below i are stored, nothing else has changed, and whether one of them reached the limit.
-use Prim.Native.Nat.{◌-◌}
 use mathlib.Core.Path.{refl, ◌∙◌}
 use borrow.Author.Rules.{rules}
 use native.Mathlib.Omega.{arith}

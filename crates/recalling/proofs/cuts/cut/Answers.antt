@@ -1,5 +1,4 @@
 -- `cut` meets its contract. The loop's invariant: in the last bytes, which are to be kept, no step ends. The measure: how many more may be kept.
-use Prim.Native.Nat.{◌-◌}
 use mathlib.Core.Path.{sym, ◌∙◌}
 use native.Mathlib.Omega.{arith}
 use lib.ListN.{length}

@@ -1,7 +1,4 @@
 -- `run` meets its contract. The loop's invariant: the block is taken so far. The measure: what is left of it.
-use mathlib.Core.Bool.{not}
-use Rattle.std.proofs.Common.{ap}
-use Prim.Native.Nat.{◌-◌}
 use native.Mathlib.Omega.{arith}
 use Rattle.streams.proofs.Stretches.{lent, used_up}
 use Rattle.conversions.proofs.UndumpLines.{undump_program_lem, block_used}

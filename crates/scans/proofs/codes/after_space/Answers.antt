@@ -1,5 +1,4 @@
 -- `after_space` meets its contract. Measure: the bytes left.
-use Prim.Native.Nat.{◌-◌}
 use native.Mathlib.Omega.{arith}
 use Rattle.scans.proofs.Unknown.{space_none, space_found, space_on, space_end}
 use Rattle.scans.proofs.codes.after_space.Goals as goal

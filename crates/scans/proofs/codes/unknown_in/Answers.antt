@@ -1,5 +1,4 @@
 -- `unknown_in` meets its contract. Measure: the bytes left.
-use Prim.Native.Nat.{◌-◌}
 use Rattle.scans.proofs.Unknown.{one_unknown, looking_on, none_unknown}
 use Rattle.scans.proofs.codes.unknown_in.Goals as goal
 

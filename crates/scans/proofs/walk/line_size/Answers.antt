@@ -1,5 +1,4 @@
 -- `line_size` meets its contract. Measure: the bytes left.
-use Prim.Native.Nat.{◌-◌}
 use native.Mathlib.Omega.{arith}
 use Rattle.scans.proofs.Sizes.{size_found, sizing_on, size_end}
 use Rattle.scans.proofs.walk.line_size.Goals as goal

@@ -1,5 +1,4 @@
 -- `read_time` meets its contract. Measure: the places where a digit may still stand.
-use Rattle.std.proofs.Common.{◌-◌}
 use Rattle.sights.proofs.Clock.{counting_start, counting_on, timed}
 use Rattle.sights.proofs.time.read_time.Goals as goal
 
