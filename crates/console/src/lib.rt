@@ -164,6 +164,7 @@ pub fn goes_on(f: Flow) -> bool
 }
 
 // How a program ends that wrote what a block came to, or could not, and has named so many breaches.
+#[tactic(auto, unfolding(crate::specs::Ends::ending_of))]
 pub fn ends_as(given: bool, f: Flow, breaches: u32) -> Ending
     ensures { result ≡ ending_of given f breaches }
 {
