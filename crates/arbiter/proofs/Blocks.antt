@@ -1,8 +1,8 @@
 -- The arbiter program from read to read.
 --
---   sorted         == what the call answered, sorted
---   formed_on      == the state stays well formed
---   roomy          == what was read has room for what it comes to
+--   sorted    == what the call answered, sorted
+--   formed_on == the state stays well formed
+--   roomy     == what was read has room for what it comes to
 --   begun_formed, begins, refuses == a header that is accepted begins with the reset state; one that is refused ends the program
 use Prim.Native.Nat.{ℕ, ◌+◌, ◌*◌, ◌≤◌, ◌<◌}
 use mathlib.Core.Path.{◌≡◌, refl, sym, ◌∙◌}

@@ -1,9 +1,9 @@
 -- How the parts of a step come together, over plain values.
 --
 --   numbered, counted == what holds of a state holds of the numbers that stand for it
---   went_on          == an accepted cycle
---   bad              == a tested one that is refused
---   malformed, full  == the refusals before the tests
+--   went_on         == an accepted cycle
+--   bad             == a tested one that is refused
+--   malformed, full == the refusals before the tests
 use Prim.Native.Nat.{◌≤◌, ◌<◌}
 use mathlib.Core.Path.{◌≡◌, sym, ◌∙◌}
 use mathlib.Core.Bool.{Bool, true, false, not}

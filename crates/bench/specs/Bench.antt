@@ -1,8 +1,8 @@
 -- What the bench's caller makes of the answer of a step: "one arbiter state moved on where it stands, by a thin caller over the plain step".
 --
---   said_of a       == what the caller says of the answer a
---   moved_number v  == the page's number of what the caller says: 0, or that of the refusal
---   held_after s a  == the state that stands behind the reference after the answer a to a cycle that began in s
+--   said_of a      == what the caller says of the answer a
+--   moved_number v == the page's number of what the caller says: 0, or that of the refusal
+--   held_after s a == the state that stands behind the reference after the answer a to a cycle that began in s
 use Rattle.std.specs.Prelude.{ℕ}
 use Rattle.rules.specs.declared.State.{State}
 use Rattle.rules.specs.declared.Answer.{Answer}

@@ -1,9 +1,9 @@
 -- What keeps the bus busy, from the numbers of phases.
 --
---   settled_begun   == a phase that is not Fresh is neither Fixed nor Open exactly where its number is 0
---   opened_free     == a first beat opens Fixed or Open exactly where its burst is of a protected kind
---   fresh_runs      == a Fresh access
---   later_runs      == one that is no longer Fresh
+--   settled_begun == a phase that is not Fresh is neither Fixed nor Open exactly where its number is 0
+--   opened_free   == a first beat opens Fixed or Open exactly where its burst is of a protected kind
+--   fresh_runs    == a Fresh access
+--   later_runs    == one that is no longer Fresh
 use Prim.Native.Nat.{ℕ, zero, suc, ◌≤◌}
 use mathlib.Core.Path.{◌≡◌, refl, sym, ◌∙◌, ap}
 use mathlib.Core.Bool.{Bool, true, false, not, ◌&&◌, cond}

@@ -1,7 +1,7 @@
 -- A decision with GRANTED low, from the numbers.
 --
---   some_winner     == where some bit is high, the walk ends at a master
---   decided         == DECIDE is high exactly where neither the lock nor the burst holds the bus
+--   some_winner == where some bit is high, the walk ends at a master
+--   decided     == DECIDE is high exactly where neither the lock nor the burst holds the bus
 --   chooses_zero, chooses_winner, chooses_none == the three ends of the choice
 use Prim.Native.Nat.{ℕ, zero, suc, ◌^◌, ◌≤◌, ◌<◌}
 use mathlib.Core.Path.{◌≡◌, refl, sym, ◌∙◌, ap}

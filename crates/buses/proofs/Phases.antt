@@ -1,9 +1,9 @@
 -- The numbers of phases: what each rule of a phase makes of them.
 --
---   number          == a number from 0 to 5 is that of its phase
---   number_of       == a phase that fits a state has a number
---   begun_number    == so has a phase that is not Fresh
---   picked          == a choice between two phases is the choice between their numbers
+--   number       == a number from 0 to 5 is that of its phase
+--   number_of    == a phase that fits a state has a number
+--   begun_number == so has a phase that is not Fresh
+--   picked       == a choice between two phases is the choice between their numbers
 --   four_beats, some_beats == a fixed burst has four beats
 --   opens_single, opens_incr, opens_fixed, opens_unbuilt, opens_none == the phase that a first beat opens
 --   stays_done, counted, stays_open == the phase after a later cycle with GRANTED low: of Done, of Fixed, of Open

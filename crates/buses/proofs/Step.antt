@@ -1,11 +1,11 @@
 -- One cycle that a step takes, over plain numbers.
 --
---   same_state      == a state is that of its numbers
---   due             == the facts of a cycle that a step takes
---   moves           == the state that follows, from the fields of its bus
+--   same_state == a state is that of its numbers
+--   due        == the facts of a cycle that a step takes
+--   moves      == the state that follows, from the fields of its bus
 --   decide_moves, wait_moves == a cycle with GRANTED low, and one with GRANTED high
---   shows           == what is shown, from its numbers
---   stepped         == the step's answer, from the bus that follows and what is shown
+--   shows      == what is shown, from its numbers
+--   stepped    == the step's answer, from the bus that follows and what is shown
 use Prim.Native.Nat.{ℕ, ◌+◌, ◌-◌, ◌≤◌, ◌<◌}
 use mathlib.Core.Path.{◌≡◌, refl, ap}
 use mathlib.Core.Bool.{Bool, true, false, not, cond}

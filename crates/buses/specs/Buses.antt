@@ -1,14 +1,14 @@
 -- The state that plain numbers stand for, and what a cycle makes of them.
 --
---   phase_from k     == the phase of the number k: 0 Done, 1 to 3 Fixed, 4 Open, 5 Fresh
---   phase_number p   == the number of the phase p
+--   phase_from k    == the phase of the number k: 0 Done, 1 to 3 Fixed, 4 Open, 5 Fresh
+--   phase_number p  == the number of the phase p
 --   Numbers p k     == k is a number from 0 to 5, and p is its phase
 --   Begun p k       == k is a number from 0 to 4, and p is its phase: any but Fresh
---   state_from n b   == the state of n masters that b stands for
+--   state_from n b  == the state of n masters that b stands for
 --   Fit b           == a bus whose numbers stand for a phase and for flags
 --   Due n b x       == a cycle that a step takes, with facts of its numbers
---   decide_of n b x  == DECIDE
---   low_after n b x  == the phase after a cycle with GRANTED low
+--   decide_of n b x == DECIDE
+--   low_after n b x == the phase after a cycle with GRANTED low
 --   Runs n b x busy k == k is the number of that phase, and busy is 0 exactly where the owner's burst lets a decision fall
 --   Chooses n b x d g granted decide == g, GRANTED and DECIDE as numbers, where d says whether a decision falls
 --   Moves n b x decide r == r is the bus after the cycle, and decide is DECIDE in it

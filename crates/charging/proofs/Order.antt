@@ -2,8 +2,8 @@
 --
 --   of_five, of_seven == flags one after the other as digits
 --   alone_is, first_is, compared_is == a group, from the flags that the code finds
---   at_first        == the first cycle's charges are those of this cycle alone and of the first
---   later           == another's are those of this cycle alone, of the comparison, and G11
+--   at_first == the first cycle's charges are those of this cycle alone and of the first
+--   later    == another's are those of this cycle alone, of the comparison, and G11
 use Prim.Native.Nat.{ℕ, ◌+◌, ◌*◌}
 use mathlib.Core.Path.{◌≡◌}
 use mathlib.Core.Bool.{Bool, false, ◌&&◌}

@@ -1,12 +1,12 @@
 -- Where a program goes on.
 --
---   again          == buffers of the same sizes serve for the next block
---   free           == behind a cut line there is room to read on
---   fits           == what was read has room for what its lines come to
---   lines_cut      == whole lines of what was read, and the rest
+--   again     == buffers of the same sizes serve for the next block
+--   free      == behind a cut line there is room to read on
+--   fits      == what was read has room for what its lines come to
+--   lines_cut == whole lines of what was read, and the rest
 --   went, lines_went == a read, of which some bytes are taken and the rest is kept: the program went on, or it ends
 --   last_closes, unread_closes == the last read: what is kept comes to an end; and a read that failed
---   nearer         == one that went on read at least a byte of no more than 1,000,001 lines
+--   nearer    == one that went on read at least a byte of no more than 1,000,001 lines
 use Prim.Native.Nat.{ℕ, zero, suc, ◌+◌, ◌*◌, ◌-◌, ◌/◌, ◌%◌, ◌≤◌, ◌<◌}
 use mathlib.Core.Path.{◌≡◌, refl, sym, ◌∙◌, ap}
 use mathlib.Core.Bool.{Bool, true, false, true≢false}

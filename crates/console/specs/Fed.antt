@@ -1,7 +1,7 @@
 -- What a read came to.
 --
---   size_of f        == the bytes that stand in the buffer
---   more_after f     == more may come
+--   size_of f    == the bytes that stand in the buffer
+--   more_after f == more may come
 --   Fill f k old new == a read behind the first k bytes of a buffer, which it leaves as they are
 use Rattle.std.specs.Prelude.{ℕ, ◌≤◌, ◌<◌, ◌≡◌, Bool, true, false, List, length, take}
 use Rattle.console.specs.declared.Fed.{Fed}

@@ -1,6 +1,6 @@
 -- From read to read.
 --
---   goes_on_after f   == a block was used up, and the program has not stopped
+--   goes_on_after f == a block was used up, and the program has not stopped
 --   Lines w a b     == what was read is cut between a and b: a is whole lines of w bytes, and b is less than one
 --   Onward turn Cut s old t new == a program went on: with the bytes old kept and in the state s before, with new kept and in the state t after
 --   Onwards ..      == it went on so, any number of times

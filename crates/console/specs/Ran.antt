@@ -1,9 +1,9 @@
 -- A program from its header to its end: how it goes from read to read, and what it ends with.
 --
---   Closes .. Cut s old e    == in the state s, with the bytes old kept, the program ends as e says
---   Turned ..                == one read: the program went on, or it ends
---   Ran .. s e               == from the state s on the program went on any number of times, and then ended
---   Begins .. h e            == after the header h the program ends as e says
+--   Closes .. Cut s old e == in the state s, with the bytes old kept, the program ends as e says
+--   Turned ..             == one read: the program went on, or it ends
+--   Ran .. s e            == from the state s on the program went on any number of times, and then ended
+--   Begins .. h e         == after the header h the program ends as e says
 use Rattle.std.specs.Prelude.{ℕ, ◌≤◌, ◌≡◌, Bool, true, false, List, [], ◌++◌, length}
 use Rattle.rules.specs.declared.Refusal.{Refusal}
 use Rattle.formats.specs.declared.HeaderRead.{HeaderRead}

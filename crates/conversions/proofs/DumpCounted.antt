@@ -1,8 +1,8 @@
 -- The program trace2vcd counts its cycles, and the lines of its input.
 --
---   dump_counts     == a turn that goes on has counted its cycle
---   Level p q       == from p to q as many lines went by as cycles
---   stays_level     == so it is after any stretch
+--   dump_counts == a turn that goes on has counted its cycle
+--   Level p q   == from p to q as many lines went by as cycles
+--   stays_level == so it is after any stretch
 use Prim.Native.Nat.{ℕ, zero, suc, ◌+◌}
 use mathlib.Core.Path.{◌≡◌, refl}
 use mathlib.Core.List.{List, [], ◌∷◌}

@@ -1,7 +1,7 @@
 -- The program trace2vcd goes by lines: a turn looks at no more than one trace line.
 --
---   dump_goes       == what a turn that goes on has read and written
---   dump_by_lines   == the turns of the program
+--   dump_goes     == what a turn that goes on has read and written
+--   dump_by_lines == the turns of the program
 use Prim.Native.Nat.{ℕ, ◌<◌}
 use mathlib.Core.Path.{◌≡◌, refl, ap}
 use mathlib.Core.Bool.{Bool, true, false, cond}

@@ -1,9 +1,9 @@
 -- The header of a dump is told by its first bytes.
 --
 --   begins_near, begins_at == what a text begins with is told by as many bytes; and each of them
---   undump_head_near   == the bytes that the program reads tell the header of the whole input
---   undump_head_size_lem   == and are those of the header, where it is accepted
---   undump_head_good   == a header that is accepted has a good n
+--   undump_head_near     == the bytes that the program reads tell the header of the whole input
+--   undump_head_size_lem == and are those of the header, where it is accepted
+--   undump_head_good     == a header that is accepted has a good n
 use Prim.Native.Nat.{ℕ, zero, suc, ◌+◌, ◌-◌, ◌*◌, ◌≤◌, ◌<◌}
 use mathlib.Core.Path.{◌≡◌, refl, sym, ◌∙◌, ap}
 use mathlib.Core.Bool.{Bool, true, false, not, ◌&&◌, cond, true≢false}

@@ -1,8 +1,8 @@
 -- One step of the program vcd2trace.
 --
 --   undump_stepping, undump_cutting == the program goes by steps, and its input may be cut between them
---   undump_counts   == a step that is taken is counted
---   undump_program_lem  == no step writes more bytes than a trace line, and the position stays well formed
+--   undump_counts      == a step that is taken is counted
+--   undump_program_lem == no step writes more bytes than a trace line, and the position stays well formed
 --   step_on, step_refused, step_none == the three ends of a step
 --   block_stopped, block_used == the two ends of a block
 use Prim.Native.Nat.{ℕ, ◌≤◌}

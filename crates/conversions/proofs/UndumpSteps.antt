@@ -1,10 +1,10 @@
 -- The program vcd2trace goes by steps: a turn looks at no more than one, and a block may be cut between two.
 --
---   long_enough        == a block with a long step at its end is long
---   undump_last        == where nothing is left, it stops
---   undump_next        == a step has three bytes at least
---   undump_near        == it looks at no more than what stands before a cut
---   undump_rest        == and what it leaves is cut there too
+--   long_enough == a block with a long step at its end is long
+--   undump_last == where nothing is left, it stops
+--   undump_next == a step has three bytes at least
+--   undump_near == it looks at no more than what stands before a cut
+--   undump_rest == and what it leaves is cut there too
 use Prim.Native.Nat.{ℕ, ◌+◌, ◌≤◌, ◌<◌}
 use mathlib.Core.Path.{◌≡◌, refl, sym, ◌∙◌, ap}
 use mathlib.Core.Bool.{Bool, true, false, cond}

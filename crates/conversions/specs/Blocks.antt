@@ -1,7 +1,7 @@
 -- The calls that take one block each: 9, then 10; and where the blocks of a dump are cut.
 --
---   StepEnds a b       == a step ends between a and b, whatever comes after b
---   BetweenSteps a b   == a block may be cut between a and b
+--   StepEnds a b     == a step ends between a and b, whatever comes after b
+--   BetweenSteps a b == a block may be cut between a and b
 --   dump_block_of, dump_block_left, undump_block_of, undump_block_left == the answers of the calls that take one block, and the buffer afterwards
 use Rattle.std.specs.Prelude.{ℕ, ◌≡◌, Bool, cond, List, [], ◌∷◌, ◌++◌, ltb, length, get_or}
 use Rattle.formats.specs.Digits.{lf}

@@ -1,5 +1,5 @@
 -- What is promised of the program trace2vcd as it runs: header first, then block by block. Each statement is proved in
--- proofs/DumpPromises.antt by a law of its name, in lower case with hyphens.
+-- proofs/DumpPromises.antt by a law of its name, in lower case with underscores.
 --
 --   dump_run h blocks last == what the calls write for a header that was read and the blocks after it
 use Rattle.std.specs.Prelude.{ℕ, ◌+◌, ◌*◌, ◌≤◌, ◌<◌, ◌≡◌, true, List, [], ◌++◌, length, take, drop}

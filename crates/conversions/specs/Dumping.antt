@@ -1,7 +1,7 @@
 -- The program trace2vcd: a trace on standard input, its dump on standard output.
 --
---   dump_turn p rest    == one trace line: it is read, and its step is written
---   dump_program s      == all that the program writes for the input s
+--   dump_turn p rest == one trace line: it is read, and its step is written
+--   dump_program s   == all that the program writes for the input s
 use Rattle.std.specs.Prelude.{ℕ, suc, cond, List, [], ◌++◌, leb, length, drop}
 use Rattle.rules.specs.declared.Refusal.TheVariants as refusal
 use Rattle.rules.specs.Codes.{most_cycles}

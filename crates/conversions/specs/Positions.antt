@@ -1,8 +1,8 @@
 -- Where a conversion stands.
 --
---   start_at n line     == at the start, with the first line after the header
---   after p c lines    == after the cycle c, which had so many lines of the input
---   position_formed p   == n is 2 to 16, there are at most 1,000,000 cycles, and no more lines than they can have had
+--   start_at n line   == at the start, with the first line after the header
+--   after p c lines   == after the cycle c, which had so many lines of the input
+--   position_formed p == n is 2 to 16, there are at most 1,000,000 cycles, and no more lines than they can have had
 use Rattle.std.specs.Prelude.{ℕ, ◌+◌, ◌*◌, Bool, ◌&&◌, leb}
 use Rattle.rules.specs.declared.Cycle.{Cycle}
 use Rattle.rules.specs.Codes.{most_cycles}

@@ -1,5 +1,5 @@
 -- What is promised of the program vcd2trace as it runs: header first, then block by block. Each statement is proved in
--- proofs/UndumpPromises.antt by a law of its name, in lower case with hyphens.
+-- proofs/UndumpPromises.antt by a law of its name, in lower case with underscores.
 --
 --   undump_run h        == what the program writes for a header that was read and the blocks after it
 use Rattle.std.specs.Prelude.{ℕ, ◌+◌, ◌*◌, ◌≤◌, ◌<◌, ◌≡◌, true, List, [], ◌++◌, length, take, drop}

@@ -1,7 +1,7 @@
 -- The program vcd2trace: a dump on standard input, its trace on standard output.
 --
---   undump_turn p rest  == one step: it is read, and its trace line is written
---   undump_program s    == all that the program writes for the input s
+--   undump_turn p rest == one step: it is read, and its trace line is written
+--   undump_program s   == all that the program writes for the input s
 use Rattle.std.specs.Prelude.{ℕ, suc, List, [], ◌++◌, length, take, drop}
 use Rattle.formats.specs.declared.Word.TheVariants.{Trace}
 use Rattle.formats.specs.declared.HeaderRead.{HeaderRead}

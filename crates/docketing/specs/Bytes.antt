@@ -15,7 +15,7 @@
 --   judge_bytes j == the bytes of the judge j: head_bytes are 0 to 11, cycle_bytes of the previous cycle 12 to 25; the lost counts follow
 --   is_judge b    == b begins with the bytes of a judge, well formed or not
 --   judge_in b    == that judge
---   Docket       == what lent bytes are: a judge, or bytes that no judge has
+--   Docket        == what lent bytes are: a judge, or bytes that no judge has
 --   bytes_judge b == the judge whose bytes b begins with, if there is one
 use Rattle.std.specs.Prelude.{ℕ, Bool, ◌&&◌, ◌||◌, cond, List, [], ◌∷◌, ◌++◌, eqb, leb, get_or, take, drop}
 use Rattle.rules.specs.declared.Inputs.{Inputs}

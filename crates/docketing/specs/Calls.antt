@@ -1,14 +1,14 @@
 -- The judge's two calls from C. Order of a step: 9, then as a step of the judge, 10, 8, 4, 5, 6, 7; bytes that no judge has are refusal 10 too.
 -- Order of a start: 9, 1. Of longer buffers only the first 42 and 4 bytes are used. A refusal changes no byte of either buffer.
 --
---   recorded a .. k      == the recorded cycle whose eleven columns the caller passes as numbers
---   mask_size             == the bytes of a mask of broken rules
---   Ruling               == what a step comes to: the judge after the cycle and the mask, or a refusal
---   ruling_of a           == what the answer a of the judge comes to
+--   recorded a .. k     == the recorded cycle whose eleven columns the caller passes as numbers
+--   mask_size           == the bytes of a mask of broken rules
+--   Ruling              == what a step comes to: the judge after the cycle and the mask, or a refusal
+--   ruling_of a         == what the answer a of the judge comes to
 --   judge_step judge broken c == what a step of the lent bytes comes to; judge_number gives the number that it answers
 --   judge_stored j buffer, mask_stored m buffer == a buffer that gets the judge j, or the mask m
 --   judge_after r buffer, broken_after r buffer == the two buffers after a step
---   judge_start n judge   == what a start over the lent bytes comes to; start_after gives the buffer afterwards
+--   judge_start n judge == what a start over the lent bytes comes to; start_after gives the buffer afterwards
 --   JudgeStepCall, JudgeStartCall == the contracts of the two calls
 use Rattle.std.specs.Prelude.{ℕ, ◌≡◌, cond, List, ◌++◌, ltb, length, drop}
 use Rattle.rules.specs.declared.Refusal.{Refusal}

@@ -1,8 +1,8 @@
 -- The bytes of some judges, and some calls over such bytes, as two tables to be read beside the layout of Bytes.antt.
 --
---   judges, written    == judges, and the 42 bytes of each; between them two places that could be swapped differ
---   Asked              == a call, and beside it the number that it answers and the buffers that it leaves
---   heard a, wanted a  == what the definitions answer, and what is said beside the call
+--   judges, written   == judges, and the 42 bytes of each; between them two places that could be swapped differ
+--   Asked             == a call, and beside it the number that it answers and the buffers that it leaves
+--   heard a, wanted a == what the definitions answer, and what is said beside the call
 use Rattle.std.specs.Prelude.{ℕ, Bool, true, false, List, [], ◌∷◌, ◌++◌, replicate}
 use Rattle.rules.specs.declared.Cycle.{Cycle}
 use Rattle.rulebook.specs.declared.Watch.{Watch}

@@ -1,8 +1,8 @@
 -- What the bytes of a judge have room for.
 --
 --   InputsFit x, OutputsFit o == each column fits its bytes
---   Low l        == l has sixteen counts, each of which fits its byte
---   JudgeFits j  == each number of the judge j fits its bytes
+--   Low l       == l has sixteen counts, each of which fits its byte
+--   JudgeFits j == each number of the judge j fits its bytes
 use Rattle.std.specs.Prelude.{ℕ, ◌<◌, ◌≡◌, List, length, get_or}
 use Rattle.rules.specs.declared.Inputs.{Inputs}
 use Rattle.rules.specs.declared.Outputs.{Outputs}

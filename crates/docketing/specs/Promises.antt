@@ -1,4 +1,4 @@
--- What is promised of the judge's bytes and calls. Each statement is proved in proofs/ by a law of its name, in lower case with hyphens.
+-- What is promised of the judge's bytes and calls. Each statement is proved in proofs/ by a law of its name, in lower case with underscores.
 --
 --   AreBytes b       == each element of b is a byte, as those of a lent buffer are
 use Rattle.std.specs.Prelude.{ℕ, ◌≤◌, ◌<◌, ◌≡◌, List, ◌++◌, map, length, get_or, take, drop}

@@ -1,8 +1,8 @@
 -- One trace line, drawn or not.
 --
---   line_drawn      == a line that was read, in time, goes on with its step
+--   line_drawn == a line that was read, in time, goes on with its step
 --   untaken, left_untaken == where no line is drawn, by a glance, and at the end of the loop
---   stops_full      == a good line after the last cycle is refusal 8
+--   stops_full == a good line after the last cycle is refusal 8
 use Prim.Native.Nat.{ℕ, ◌-◌, ◌<◌}
 use mathlib.Core.Path.{◌≡◌, refl, sym, ◌∙◌}
 use mathlib.Core.Bool.{Bool, true, false, ◌&&◌}

@@ -1,10 +1,10 @@
 -- The line of a time.
 --
---   at_most_six        == the time of a cycle has six digits at most
---   short_put          == the line, written digit by digit
---   long_line          == the line of a time of six digits, as one number
---   long_fits          == that number has 64 bits
---   long_put           == that line, written as one number
+--   at_most_six == the time of a cycle has six digits at most
+--   short_put   == the line, written digit by digit
+--   long_line   == the line of a time of six digits, as one number
+--   long_fits   == that number has 64 bits
+--   long_put    == that line, written as one number
 use Prim.Native.Nat.{ℕ, zero, suc, ◌+◌, ◌/◌, ◌%◌, ◌^◌, ◌≤◌, ◌<◌}
 use mathlib.Core.Path.{◌≡◌, refl, ap, ◌∙◌}
 use mathlib.Core.List.{List, [], ◌∷◌, ◌++◌}

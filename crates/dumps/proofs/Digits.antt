@@ -1,8 +1,8 @@
 -- Two numbers below a thousand, side by side in one number and taken apart at once.
 --
---   hundreds_inside    == their hundreds are no more than they are
---   tens_inside        == the tens of what is left are no more than that
---   all_digits         == the six digits, each in its byte
+--   hundreds_inside == their hundreds are no more than they are
+--   tens_inside     == the tens of what is left are no more than that
+--   all_digits      == the six digits, each in its byte
 use Prim.Native.Nat.{ℕ, ◌+◌, ◌-◌, ◌*◌, ◌/◌, ◌%◌, ◌≤◌, ◌<◌}
 use mathlib.Core.Path.{◌≡◌, ap, ◌∙◌}
 use native.Mathlib.Omega.{arith}

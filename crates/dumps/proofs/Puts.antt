@@ -1,11 +1,11 @@
 -- Lines that are put one after the other.
 --
---   put_none           == a variable that did not change has no line
---   put_line           == the line of one that did
+--   put_none  == a variable that did not change has no line
+--   put_line  == the line of one that did
 --   line_stores, line_end, line_short == the stores of a line of several bits, where it ends, and how long it is
---   put_then           == a second run of bytes where the first ends
---   put_last           == and nothing after it
---   put_start          == bytes that are put at the start of a buffer, and what stands after them
+--   put_then  == a second run of bytes where the first ends
+--   put_last  == and nothing after it
+--   put_start == bytes that are put at the start of a buffer, and what stands after them
 use Prim.Native.Nat.{ℕ, ◌+◌, ◌≤◌}
 use mathlib.Core.Path.{◌≡◌, refl, sym, ◌∙◌}
 use mathlib.Core.Bool.{Bool, true, false, not, ◌||◌}

@@ -1,11 +1,11 @@
 -- Bits as characters, and the lines that they stand in.
 --
---   spread_bits        == eight bits spread over the bytes of a number
---   spread_fits        == that number has 64 bits
---   bits_length        == w bits are w characters
+--   spread_bits == eight bits spread over the bytes of a number
+--   spread_fits == that number has 64 bits
+--   bits_length == w bits are w characters
 --   bits_more, bits_none == bits that are written one by one: the first and the rest, and none
 --   scalar_line, vector_line == the line of a variable of one bit, and of several
---   mask_put           == sixteen bits, written as two runs of eight
+--   mask_put    == sixteen bits, written as two runs of eight
 use Prim.Native.Nat.{ℕ, zero, suc, ◌+◌, ◌-◌, ◌*◌, ◌/◌, ◌%◌, ◌^◌, ◌≤◌, ◌<◌}
 use mathlib.Core.Path.{◌≡◌, refl, sym, ap, ◌∙◌}
 use mathlib.Core.List.{List, [], ◌∷◌, ◌++◌}

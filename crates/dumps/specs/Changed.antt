@@ -1,9 +1,9 @@
 -- The lines of a step, one variable at a time.
 --
---   variable w k       == the variable with w bits and the code k
---   changed all x v u  == the line of the variable x whose value was v and is u, or nothing
+--   variable w k      == the variable with w bits and the code k
+--   changed all x v u == the line of the variable x whose value was v and is u, or nothing
 --   input_variables, output_variables == the variables of the two parts of a cycle
---   Put b at s k r c   == the bytes s, of which there are k at most, stand in c from at on and up to r; the rest is as in b
+--   Put b at s k r c  == the bytes s, of which there are k at most, stand in c from at on and up to r; the rest is as in b
 use Rattle.std.specs.Prelude.{ℕ, ◌+◌, ◌≤◌, ◌≡◌, Bool, not, ◌||◌, cond, List, [], eqb, length}
 use Rattle.std.proofs.lemmas.List.Edits.{sets}
 use Rattle.formats.specs.Columns.{input_columns, output_columns}

@@ -1,6 +1,6 @@
 -- Hex digits: what the arithmetic of the readers and writers comes to.
 --
---   or_none none d       == the digit d, and none where d is no digit
+--   or_none none d      == the digit d, and none where d is no digit
 --   of_wrapped          == a byte's digit, from two differences that wrap round
 --   joined_by_sum       == one digit more: a sum and one test say what two tests say
 --   number_one          == a column of one digit

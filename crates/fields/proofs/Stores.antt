@@ -1,8 +1,8 @@
 -- Runs of stores.
 --
---   sets_append       == two runs, the second where the first ends, are one
---   then_sets         == the same of two buffers, one made from the other
---   set_first         == a store just before a run makes it longer by one
+--   sets_append == two runs, the second where the first ends, are one
+--   then_sets   == the same of two buffers, one made from the other
+--   set_first   == a store just before a run makes it longer by one
 use Rattle.std.proofs.Common.{◌≡◌, ℕ, suc, ◌+◌, ◌<◌, List, [], ◌∷◌, ◌++◌, length, set, sym, refl, ap, ◌∙◌, add-suc, suc-add, zero-add, add-one, arith}
 use lib.Seq.{sets, set_comm}
 

@@ -1,8 +1,8 @@
 -- The ends of a writer: the answer and the buffer, from the check of what is to be written and the room there is.
 --
---   write_refused     == the check refused
---   write_short       == the buffer is too short
---   write_whole       == the bytes stand at the start of the buffer
+--   write_refused == the check refused
+--   write_short   == the buffer is too short
+--   write_whole   == the bytes stand at the start of the buffer
 use Rattle.std.proofs.Common.{◌≡◌, ℕ, ◌<◌, ◌≤◌, List, length, sym, ap, ◌∙◌, zero-add, arith, le-ltb, lt-ltb}
 use lib.Seq.{sets, sets-eq}
 use Rattle.rules.specs.declared.Refusal.{Refusal}

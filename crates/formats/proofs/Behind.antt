@@ -1,8 +1,8 @@
 -- A reader looks at nothing before its position: behind other bytes it finds the same, that many bytes later.
 --
---   later k l       == what was found, with the next position k bytes later
---   place_behind    == what there is at a position
---   reading_behind  == the law, over any format of lines
+--   later k l      == what was found, with the next position k bytes later
+--   place_behind   == what there is at a position
+--   reading_behind == the law, over any format of lines
 --   stimulus_behind, trace_behind == the same of the two readers, at the front of what stands behind
 use Prim.Native.Nat.{ℕ, zero, suc, ◌+◌, ◌-◌}
 use mathlib.Core.Path.{◌≡◌, refl, sym, ◌∙◌, ap}

@@ -1,11 +1,11 @@
 -- Bytes and lists of them.
 --
---   below           == what holds of both sides of a choice by `<` holds of the choice
+--   below          == what holds of both sides of a choice by `<` holds of the choice
 --   each_map, each_append, each_at == what every element has
---   part_at         == two lists that are parted by the same byte, which stands in neither first part, agree in both parts
---   present         == a byte other than 0 stands inside the input
---   bytes_at k s p   == the k bytes from p on, one by one
---   take_bytes      == they are what is taken there
+--   part_at        == two lists that are parted by the same byte, which stands in neither first part, agree in both parts
+--   present        == a byte other than 0 stands inside the input
+--   bytes_at k s p == the k bytes from p on, one by one
+--   take_bytes     == they are what is taken there
 use Prim.Native.Nat.{ℕ, zero, suc, ◌+◌, ◌≤◌, ◌<◌}
 use mathlib.Core.Path.{◌≡◌, refl, sym}
 use mathlib.Core.Bool.{cond}

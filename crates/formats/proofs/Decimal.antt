@@ -1,10 +1,10 @@
 -- Decimal digits.
 --
 --   digit_is, digit_bounds == the decimal digits are the ten bytes from '0' on
---   one_digit_lem, two_digits == what a number below 10, and one below 100, is written as
---   decimal_not     == no byte of a decimal is below '0'
---   in_decimal      == a number below 10 ^ 10 stands in decimal, with no leading zero, and reads back
---   number_before   == two such numbers before the same byte below '0', in equal lines, are the same
+--   one_digit_lem, two_digits_lem == what a number below 10, and one below 100, is written as
+--   decimal_not   == no byte of a decimal is below '0'
+--   in_decimal    == a number below 10 ^ 10 stands in decimal, with no leading zero, and reads back
+--   number_before == two such numbers before the same byte below '0', in equal lines, are the same
 use Prim.Native.Nat.{ℕ, zero, suc, ◌+◌, ◌/◌, ◌%◌, ◌^◌, ◌≤◌, ◌<◌}
 use mathlib.Core.Path.{◌≡◌, sym, ◌∙◌, ap}
 use mathlib.Core.Bool.{true}

@@ -1,11 +1,11 @@
 -- LF ends each line, and stands nowhere else in it.
 --
---   Plain l         == no byte of l is LF
---   bare, after     == LF alone is a line, and so is a line after plain bytes
+--   Plain l       == no byte of l is LF
+--   bare, after   == LF alone is a line, and so is a line after plain bytes
 --   hex_plain, decimal_plain, name_plain, prefix_plain == numbers and names are plain
---   Closed fs       == tabs part the fields and LF ends the line
---   fields_closed   == the fields of columns are so
---   write_ends      == what is written into such fields is one line
+--   Closed fs     == tabs part the fields and LF ends the line
+--   fields_closed == the fields of columns are so
+--   write_ends    == what is written into such fields is one line
 --   number_ends, number_then == a number before LF, and before a tab and a line
 use Prim.Native.Nat.{ℕ, zero, suc, ◌/◌, ◌%◌, ◌<◌}
 use mathlib.Core.Path.{◌≡◌, refl}

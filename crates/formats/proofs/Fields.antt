@@ -1,11 +1,11 @@
 -- Lines as lists of fields, over any list of fields: what is written reads back, and what is read writes back.
 --
---   Fits fs vs      == there is a value for each field, and it has no more than the field's digits
---   write_length    == a line with a value for each field has its width
---   values_write    == the values of a written line are those that were written
---   parted_write    == each separator of a written line stands in its place
---   write_values    == a parted line whose values fit writes back as the bytes that stood there
---   unread_unfit    == where a character is no hex digit, the values do not fit
+--   Fits fs vs   == there is a value for each field, and it has no more than the field's digits
+--   write_length == a line with a value for each field has its width
+--   values_write == the values of a written line are those that were written
+--   parted_write == each separator of a written line stands in its place
+--   write_values == a parted line whose values fit writes back as the bytes that stood there
+--   unread_unfit == where a character is no hex digit, the values do not fit
 use Prim.Native.Nat.{ℕ, ◌+◌, ◌^◌, ◌≤◌, ◌<◌}
 use mathlib.Core.Path.{◌≡◌, refl, ◌∙◌}
 use mathlib.Core.Logic.{inl, inr}

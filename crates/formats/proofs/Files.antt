@@ -1,12 +1,12 @@
 -- Whole files, over any format of lines: what is written reads back, and what is read writes back.
 --
---   befores l m     == the lines l, and then what m finds
---   lines_read      == written lines read back, whatever comes after them, with fuel for one more
---   lines_write     == lines that end write back as the bytes from their start on, with fuel for every byte
+--   befores l m  == the lines l, and then what m finds
+--   lines_read   == written lines read back, whatever comes after them, with fuel for one more
+--   lines_write  == lines that end write back as the bytes from their start on, with fuel for every byte
 --   file_for w F n l, read_file w F s == a file of the word w and lines of the format F, written and read
---   file_of_lem         == a reader of such files, over the reader of their lines
+--   file_of_lem  == a reader of such files, over the reader of their lines
 --   file_reads, file_writes == the two round trips of a file
---   file_refused    == what is refused after k valid lines is refused at line k + 2
+--   file_refused == what is refused after k valid lines is refused at line k + 2
 use Prim.Native.Nat.{ℕ, zero, suc, ◌+◌, ◌≤◌, ◌<◌}
 use mathlib.Core.Path.{◌≡◌, refl, sym, ◌∙◌, ap, fun_ext}
 use mathlib.Core.Bool.{Bool, true, false, false≢true}

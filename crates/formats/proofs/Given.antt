@@ -1,8 +1,8 @@
 -- Which refusals a reader gives: 2 and 1 for a header; for a line, once n is tested, 3 to 7.
 --
---   OfALine r       == r is one of 3 to 7
---   first_gives     == the tests 4 to 7
---   header_gives    == of a header
+--   OfALine r    == r is one of 3 to 7
+--   first_gives  == the tests 4 to 7
+--   header_gives == of a header
 --   stimulus_gives, trace_gives == of a line
 use Prim.Native.Nat.{ℕ, ◌+◌, ◌-◌, ◌*◌, ◌≤◌}
 use mathlib.Core.Path.{◌≡◌, refl, sym, ◌∙◌, ap}

@@ -1,9 +1,9 @@
 -- Headers: what is written reads back, and what is read writes back.
 --
---   starts_append   == an input that begins with the bytes t starts with t
---   starts_take     == an input that starts with t, which has no byte 0, begins with its bytes
---   header_reads    == a written header reads back, whatever comes after it
---   header_writes   == a header that was read writes back as the bytes that stood there
+--   starts_append == an input that begins with the bytes t starts with t
+--   starts_take   == an input that starts with t, which has no byte 0, begins with its bytes
+--   header_reads  == a written header reads back, whatever comes after it
+--   header_writes == a header that was read writes back as the bytes that stood there
 use Prim.Native.Nat.{ℕ, zero, suc, ◌+◌, ◌-◌, ◌*◌, ◌/◌, ◌%◌, ◌≤◌, ◌<◌}
 use mathlib.Core.Path.{◌≡◌, refl, sym, ◌∙◌, ap, ap₂}
 use mathlib.Core.Bool.{Bool, true, false, false≢true}

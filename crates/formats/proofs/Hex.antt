@@ -1,14 +1,14 @@
 -- Hex digits: what is written reads back, and what is read writes back. A character that is no hex digit makes the number 16 ^ w.
 --
---   digit_bound     == a byte writes a digit below 16, or 16 stands for none
---   digit_of_char   == the character of a digit reads back
---   char_of_digit   == the digit of a character writes back
+--   digit_bound   == a byte writes a digit below 16, or 16 stands for none
+--   digit_of_char == the character of a digit reads back
+--   char_of_digit == the digit of a character writes back
 --   none_no_hex, no_hex_none == 16 stands for a byte exactly when it is the character of no digit
---   char_bound      == no character of a digit is below '0'
---   hex_length      == w digits are w bytes
---   number_bound    == a number of w digits is below 16 ^ w, or 16 ^ w stands for none
---   number_of_hex   == the number that hex wrote reads back
---   hex_of_number   == the digits of the number that was read are the bytes that stood there
+--   char_bound    == no character of a digit is below '0'
+--   hex_length    == w digits are w bytes
+--   number_bound  == a number of w digits is below 16 ^ w, or 16 ^ w stands for none
+--   number_of_hex == the number that hex wrote reads back
+--   hex_of_number == the digits of the number that was read are the bytes that stood there
 --   top_no_digit, no_digit_top == 16 ^ w stands for w characters exactly when some of them is no hex digit
 use Prim.Native.Nat.{ℕ, zero, suc, ◌+◌, ◌-◌, ◌*◌, ◌/◌, ◌%◌, ◌^◌, ◌≤◌, ◌<◌}
 use mathlib.Core.Path.{◌≡◌, refl, sym, ◌∙◌}

@@ -1,9 +1,9 @@
 -- Rules and refusals are told by their names and numbers.
 --
 --   letter_bound, index_bound, refusal_bound == what stands in a name, and how large a number is
---   rule_same       == two rules with the same letter and number are the same
---   refusal_same    == two refusals with the same number are the same
---   name_tells      == two rules whose names stand before LF, in equal lines, are the same
+--   rule_same    == two rules with the same letter and number are the same
+--   refusal_same == two refusals with the same number are the same
+--   name_tells   == two rules whose names stand before LF, in equal lines, are the same
 use Prim.Native.Nat.{ℕ, ◌+◌, ◌-◌, ◌^◌, ◌≤◌, ◌<◌}
 use mathlib.Core.Path.{◌≡◌, refl, sym, ◌∙◌, ap, ap₂}
 use mathlib.Core.Bool.{Bool, true, cond}

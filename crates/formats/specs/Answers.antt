@@ -1,9 +1,9 @@
 -- The number that each reader and writer answers: 0, or that of its refusal.
 --
---   header_answer a    == of reading a header
+--   header_answer a  == of reading a header
 --   stimulus_answer a, trace_answer a == of reading a line
 --   stimulus_ends a, trace_ends a == whether that reading says that there are no more lines
---   written_answer a   == of writing into a lent buffer
+--   written_answer a == of writing into a lent buffer
 use Rattle.std.specs.Prelude.{ℕ, Bool, true, false}
 use Rattle.rules.specs.Refusals.{number_of}
 use Rattle.formats.specs.declared.HeaderRead.{HeaderRead}

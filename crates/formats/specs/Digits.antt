@@ -1,11 +1,11 @@
 -- Digits as characters: hex in lower case, and decimal.
 --
---   tab, lf            == the two bytes that part fields and end lines
---   hex_char d          == the character of the hex digit d, below 16
---   hex_digit b         == the digit that the byte b writes, and 16 where it writes none
---   hex w v            == the number v in w hex digits
---   number_at w s p     == the number that the w characters at p write, and 16 ^ w where one of them is no hex digit
---   decimal v          == the number v in decimal, with no leading zero
+--   tab, lf         == the two bytes that part fields and end lines
+--   hex_char d      == the character of the hex digit d, below 16
+--   hex_digit b     == the digit that the byte b writes, and 16 where it writes none
+--   hex w v         == the number v in w hex digits
+--   number_at w s p == the number that the w characters at p write, and 16 ^ w where one of them is no hex digit
+--   decimal v       == the number v in decimal, with no leading zero
 use Rattle.std.specs.Prelude.{ℕ, zero, suc, ◌+◌, ◌-◌, ◌*◌, ◌/◌, ◌%◌, ◌^◌, cond, List, [], ◌∷◌, ◌++◌, ltb, get_or}
 
 abbrev pub tab : ℕ

@@ -1,10 +1,10 @@
 -- A line as a list of fields: each has some hex digits and the byte that stands after it.
 --
---   fields cs          == the fields of a line of these columns: tabs part them, LF ends the line
---   width fs           == the bytes of such a line
---   write fs vs        == the bytes of the line with these values
---   parted fs s p      == each separator stands in its place, from p on
---   values fs s p      == the numbers that stand in the fields, from p on
+--   fields cs     == the fields of a line of these columns: tabs part them, LF ends the line
+--   width fs      == the bytes of such a line
+--   write fs vs   == the bytes of the line with these values
+--   parted fs s p == each separator stands in its place, from p on
+--   values fs s p == the numbers that stand in the fields, from p on
 use Rattle.std.specs.Prelude.{ℕ, ◌+◌, Bool, true, ◌&&◌, List, [], ◌∷◌, ◌++◌, eqb, get_or}
 use Rattle.formats.specs.Digits.{tab, lf, hex, number_at}
 use Rattle.formats.specs.Columns.{Column}

@@ -2,7 +2,7 @@
 --
 --   stimulus_file n xs, trace_file n cs == the bytes of a file
 --   read_stimulus_file s, read_trace_file s == what reading a file from its start to its end finds
---   lines_from read k p                == the lines that a reader finds from p on
+--   lines_from read k p                 == the lines that a reader finds from p on
 use Rattle.std.specs.Prelude.{ℕ, zero, suc, ◌+◌, List, [], ◌∷◌, ◌++◌, length}
 use Rattle.rules.specs.declared.Refusal.{Refusal}
 use Rattle.rules.specs.declared.Inputs.{Inputs}

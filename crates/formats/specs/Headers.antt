@@ -3,7 +3,7 @@
 --
 --   prefix w           == the bytes before n
 --   header w n         == the bytes of a header
---   read_header_of w s   == the answer of reading a header of the word w at the start of s
+--   read_header_of w s == the answer of reading a header of the word w at the start of s
 --   write_header_of, header_written == the answer of writing one, and the buffer afterwards
 use Rattle.std.specs.Prelude.{ℕ, zero, suc, ◌+◌, ◌-◌, ◌*◌, Bool, true, not, ◌&&◌, cond, List, [], ◌∷◌, ◌++◌, eqb, leb, length, get_or}
 use Rattle.rules.specs.declared.Refusal.TheVariants as refusal

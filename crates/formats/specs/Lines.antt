@@ -1,14 +1,14 @@
 -- Stimulus lines and trace lines: what reading at a position answers, and what writing leaves in a lent buffer.
 -- "Reading a line: 1, 3, 4, 5, 6, 7. Writing: 1, 4, 5, 6, 7, 9." Each test is of the whole line.
 --
---   stimulus_fields, trace_fields  == the fields of the two lines, of 16 and 31 bytes
---   place fs s p                 == what stands at the position p: no more lines, a whole line of the fields fs, or neither
---   line_check n c                == the first of 4, 5, 6, 7 that applies to a line
---   stimulus_line x, trace_line c  == the text of a line
---   fitted c size room           == the answer of writing, after its tests; left w bytes buffer == the buffer after that answer
---   read_stimulus_of, read_trace_of  == the answer of reading a line at a position
+--   stimulus_fields, trace_fields   == the fields of the two lines, of 16 and 31 bytes
+--   place fs s p                    == what stands at the position p: no more lines, a whole line of the fields fs, or neither
+--   line_check n c                  == the first of 4, 5, 6, 7 that applies to a line
+--   stimulus_line x, trace_line c   == the text of a line
+--   fitted c size room              == the answer of writing, after its tests; left w bytes buffer == the buffer after that answer
+--   read_stimulus_of, read_trace_of == the answer of reading a line at a position
 --   write_stimulus_of, write_trace_of == the answer of writing one into a buffer of some length
---   stimulus_written, trace_written == the buffer afterwards: the line and the rest untouched, or all unchanged
+--   stimulus_written, trace_written   == the buffer afterwards: the line and the rest untouched, or all unchanged
 use Rattle.std.specs.Prelude.{ℕ, ◌+◌, ◌-◌, cond, List, ◌++◌, eqb, ltb, length, drop}
 use Rattle.rules.specs.declared.Refusal.TheVariants as refusal
 use Rattle.rules.specs.declared.Check.{Check}

@@ -1,17 +1,17 @@
 -- The promises of the formats, one type for each, beside the page's sentence. proofs/Promises.antt has the proof of each, under
--- the same name in lower case with hyphens.
+-- the same name in lower case with underscores.
 --
 -- The notions that they use:
 --   header_answer, stimulus_answer, trace_answer, written_answer == the number of an answer (specs/Answers.antt)
---   InRange n         == n is from 2 to 16
---   Each P l          == every element of l has P
+--   InRange n     == n is from 2 to 16
+--   Each P l      == every element of l has P
 --   ValidInputs n x, ValidCycle n c == none of the tests 4 to 7 applies
---   NoHex b           == the byte b is the character of no hex digit
---   NoDigit w s p     == some of the w characters at p is no hex digit
---   Unread fs s p     == some character of a field of the line at p is no hex digit
---   read_on v l        == the number that the decimal digits v and then l write
---   InDecimal v l     == l is the number v in decimal, with no leading zero
---   OneLine l         == the bytes l are one line: LF ends it, and stands nowhere else
+--   NoHex b       == the byte b is the character of no hex digit
+--   NoDigit w s p == some of the w characters at p is no hex digit
+--   Unread fs s p == some character of a field of the line at p is no hex digit
+--   read_on v l   == the number that the decimal digits v and then l write
+--   InDecimal v l == l is the number v in decimal, with no leading zero
+--   OneLine l     == the bytes l are one line: LF ends it, and stands nowhere else
 --   Writes l buffer a after == a writer of the bytes l answers a and leaves `after` in the buffer
 use Rattle.std.specs.Prelude.{ℕ, ◌+◌, ◌-◌, ◌*◌, ◌^◌, ◌≤◌, ◌<◌, ◌≡◌, ◌⊎◌, ◌↔◌, true, List, [], ◌∷◌, ◌++◌, map, length, get_or, take, drop}
 use Rattle.rules.specs.declared.Refusal.{Refusal}

@@ -1,10 +1,10 @@
 -- Each refusal of a reader and of a writer by its number, each order of tests, and beside them the neighbours that are taken, as one table.
 -- n = 3 and the line of cycle 3 of the page's run, or its first five fields, unless said.
 --
---   Call              == a reader at a position of a text, or a writer into a buffer of a length
---   heard c           == the number that the definitions answer
---   asked             == calls, each with the number that the page gives it
---   table             == the two agree (proofs/Refused.antt)
+--   Call    == a reader at a position of a text, or a writer into a buffer of a length
+--   heard c == the number that the definitions answer
+--   asked   == calls, each with the number that the page gives it
+--   table   == the two agree (proofs/Refused.antt)
 use Rattle.std.specs.Prelude.{ℕ, List, [], ◌∷◌}
 use Prim.Native.String.{String}
 use Rattle.rules.specs.declared.Inputs.{Inputs}

@@ -1,9 +1,9 @@
 -- The lines of the report. The only refusal of their writers is 9.
 --
---   rule_name r         == the rule's name
---   breach_line t r     == `cycle`, tab, rule name
---   end_line k b        == `end`, tab, cycles, tab, breaches
---   refused_line l r    == `refused`, tab, line number, tab, refusal number
+--   rule_name r      == the rule's name
+--   breach_line t r  == `cycle`, tab, rule name
+--   end_line k b     == `end`, tab, cycles, tab, breaches
+--   refused_line l r == `refused`, tab, line number, tab, refusal number
 --   write_of bytes room, written_of bytes buffer == the answer of writing one of them, and the buffer afterwards
 use Rattle.std.specs.Prelude.{ℕ, List, [], ◌∷◌, ◌++◌, length}
 use Rattle.rules.specs.declared.Refusal.{Refusal}

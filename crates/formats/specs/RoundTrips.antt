@@ -1,6 +1,6 @@
 -- The round trips through the writers' answers and the buffers that they leave: what a writer wrote is read, and what was read is written.
 -- A writer that refuses everything meets the first and breaks the second. proofs/RoundTrips.antt has the proof of each promise, under the
--- same name in lower case with hyphens.
+-- same name in lower case with underscores.
 use Rattle.std.specs.Prelude.{ℕ, ◌+◌, ◌≤◌, ◌≡◌, ◌↔◌, List, ◌++◌, length, take, drop}
 use Rattle.rules.specs.declared.Inputs.{Inputs}
 use Rattle.rules.specs.declared.Cycle.{Cycle}

@@ -1,10 +1,10 @@
 -- Headers, lines and names as texts, to be read beside the page.
 --
---   bytes t           == the bytes of a text of plain characters
---   numbers           == what may stand after a header's word and version, and the refusal that it gives, or 0
---   heads             == whole headers of the word `trace`, likewise
---   names             == the names of the rules, in the order of the report
---   printed           == headers and lines, and the text of each
+--   bytes t == the bytes of a text of plain characters
+--   numbers == what may stand after a header's word and version, and the refusal that it gives, or 0
+--   heads   == whole headers of the word `trace`, likewise
+--   names   == the names of the rules, in the order of the report
+--   printed == headers and lines, and the text of each
 use Rattle.std.specs.Prelude.{ℕ, List, [], ◌∷◌}
 use Prim.Native.Char.{code}
 use Prim.Native.String.{String, [] as empty, ◌∷◌ as ◌followed◌}

@@ -1,9 +1,9 @@
 -- Masks joined by `|`, and their bits from n on.
 --
---   or_below   == a | b is below a bound only where both are
---   or_zero    == a | b is 0 where both are
+--   or_below == a | b is below a bound only where both are
+--   or_zero  == a | b is 0 where both are
 --   within, without == a mask is below 2 ^ n exactly where it has no bit from n on
---   shifted    == a mask without its low bits fits
+--   shifted  == a mask without its low bits fits
 use Rattle.std.proofs.Common.{◌≡◌, ℕ, ◌*◌, ◌/◌, ◌^◌, ◌<◌, mod-lt, zero-mul, arith, pow_pos}
 use native.Mathlib.Nat.{div-eq_of_lt}
 use lib.Bits.{bit_or, or_zero_l}

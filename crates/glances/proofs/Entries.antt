@@ -1,8 +1,8 @@
 -- The table of digits, made byte by byte.
 --
 --   weighed place b == what the digit of the byte b weighs in a place; weighed_small: how much at most
---   To b t       == the digits of the bytes below b are in their four places
---   digits_more  == one byte further, when that byte's digit is stored
+--   To b t      == the digits of the bytes below b are in their four places
+--   digits_more == one byte further, when that byte's digit is stored
 use Rattle.std.proofs.Common.{◌≡◌, ℕ, zero, suc, ◌+◌, ◌*◌, ◌^◌, ◌<◌, ◌≤◌, List, length, get_or, set, sym, ◌∙◌, zero-add, mul-one, arith, length-set, get_or-set_other, get_or-set_same}
 use Rattle.rules.proofs.Choice.{order}
 use Rattle.formats.specs.Digits.{hex_digit}

@@ -2,7 +2,7 @@
 --
 --   lanes a b c d   == the word with these lanes, from the lowest on; lanes_of: every word has its own
 --   Lanes x a b c d == the lanes of x are these; lanes_at: those that x was made of
---   mask_of h i j k  == the mask without the h, i, j and k low bits of the lanes
+--   mask_of h i j k == the mask without the h, i, j and k low bits of the lanes
 --   Low x h i j k   == the lanes of x have no bits but those
 --   low_clear, clear_low == x is so exactly where the mask leaves nothing
 use Rattle.std.proofs.Common.{◌≡◌, ℕ, ◌+◌, ◌-◌, ◌*◌, ◌/◌, ◌%◌, ◌^◌, ◌<◌, ◌≤◌, sym, ap, ◌∙◌, mod-eq_of_lt, zero-mul, arith, pow_pos, shr-shr, shr_lt}

@@ -4,7 +4,7 @@
 --   shifted_small   == they fit into four bytes
 --   char_small      == a character is a byte
 --   owner_number    == the number that the text of both is
---   owner_bytes_lem     == that number has the bytes of the text
+--   owner_bytes_lem == that number has the bytes of the text
 use Rattle.std.proofs.Common.{◌≡◌, ℕ, ◌+◌, ◌-◌, ◌*◌, ◌/◌, ◌%◌, ◌^◌, ◌<◌, refl, arith}
 use Rattle.rules.specs.Masks.{single}
 use Rattle.words.specs.Words.{low_first, number_low}

@@ -1,7 +1,7 @@
 -- The arbiter's line, written by words.
 --
---   outputs_put     == the outputs: two words, one after the other
---   trace_put       == the whole line: two words of the stimulus line, and the outputs over its LF
+--   outputs_put == the outputs: two words, one after the other
+--   trace_put   == the whole line: two words of the stimulus line, and the outputs over its LF
 use Rattle.std.proofs.Common.{◌≡◌, ℕ, ◌+◌, ◌≤◌, List, ◌++◌, length, take, drop, sym, refl, ap, ◌∙◌, arith, length-take-le, take-add}
 use lib.Seq.{sets}
 use Rattle.rules.specs.declared.Outputs.{Outputs}

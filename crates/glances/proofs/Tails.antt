@@ -1,7 +1,7 @@
 -- Bytes that are written into the rest of a buffer, from a place on.
 --
 --   rest k b        == the rest of the buffer b from k on, as a call is lent it
---   with_tail k b t  == b with t in the place of that rest, as the call leaves it
+--   with_tail k b t == b with t in the place of that rest, as the call leaves it
 --   tail_put        == bytes written at the start of the rest stand in the whole from k on
 --   put_on          == they continue those that stand before them
 --   put_over        == or take the place of the last of those

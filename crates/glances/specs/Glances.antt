@@ -1,15 +1,15 @@
 -- What a glance finds in a line, column by column, and what the arbiter's line is made of.
 --
---   digit_of b          == the hex digit that the byte b writes, and 65,536 where it writes none
---   Digits t           == t has for each of four places the digit of each byte, times 16 ^ place
---   MaskSeen s p m     == m is the mask that stands at p, and too large for any where none does
+--   digit_of b        == the hex digit that the byte b writes, and 65,536 where it writes none
+--   Digits t          == t has for each of four places the digit of each byte, times 16 ^ place
+--   MaskSeen s p m    == m is the mask that stands at p, and too large for any where none does
 --   unbuilt htrans hburst == one of the codes, of two bits each, is not built
 --   ValidCodes c, ValidFlags f == numbers that the columns of a good line have
 --   codes_bytes, flags_bytes == the text of the codes from the tab before them to the byte after them, and of the flags from the first to LF
---   CodesAt s after c  == HREADY, HTRANS and HBURST of the line s are those of c, with tabs between them and the byte after behind
---   FlagsAt s f        == HMASTLOCK, DECIDE, GRANTED and BUSREQ of the line s are those of f, with tabs between them and LF behind
+--   CodesAt s after c == HREADY, HTRANS and HBURST of the line s are those of c, with tabs between them and the byte after behind
+--   FlagsAt s f       == HMASTLOCK, DECIDE, GRANTED and BUSREQ of the line s are those of f, with tabs between them and LF behind
 --   CodesSeen s after c, FlagsSeen s f == nothing is bad exactly where valid ones stand in the line, and then they are these
---   Driven g o         == outputs of an arbiter whose grant is g
+--   Driven g o        == outputs of an arbiter whose grant is g
 use Rattle.std.specs.Prelude.{◌≡◌, ℕ, ◌+◌, ◌*◌, ◌^◌, ◌<◌, ◌≤◌, Bool, false, cond, ◌||◌, List, [], ◌∷◌, length, ◌==◌, nat_lt, slice_index, slice_index_or}
 use Rattle.rules.specs.declared.Outputs.{Outputs}
 use Rattle.rules.specs.Masks.{single}

@@ -1,7 +1,7 @@
 -- What the arbiter's line is made of.
 --
---   owner_bytes g m     == the text of HGRANT with the single bit g and of HMASTER, with the tabs round them
---   outputs_bytes o     == the text of the outputs, from the tab before them on
+--   owner_bytes g m == the text of HGRANT with the single bit g and of HMASTER, with the tabs round them
+--   outputs_bytes o == the text of the outputs, from the tab before them on
 use Rattle.std.specs.Prelude.{ℕ, List, [], ◌∷◌, ◌++◌}
 use Rattle.rules.specs.declared.Outputs.{Outputs}
 use Rattle.rules.specs.Masks.{single}

@@ -1,6 +1,6 @@
 -- The number of a header, from the tests of its three bytes.
 --
---   one_digit_lem, two_digits, no_number == the three ends
+--   one_digit_lem, two_digits_lem, no_number == the three ends
 use Prim.Native.Nat.{ℕ, ◌+◌, ◌-◌, ◌*◌}
 use mathlib.Core.Path.{◌≡◌}
 use mathlib.Core.Bool.{Bool, true, false, not, ◌&&◌}

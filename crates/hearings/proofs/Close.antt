@@ -1,10 +1,10 @@
 -- The ends of the judge's two calls, over plain values: J and B are the lent buffers, J' and B' the same at exit.
 --
---   start_fits      == a start that is taken gives a judge that fits its bytes
+--   start_fits == a start that is taken gives a judge that fits its bytes
 --   start_short, start_taken, start_refused == the ends of a start
---   next_fits       == and so does a cycle that is taken
+--   next_fits  == and so does a cycle that is taken
 --   settled_taken, settled_refused == the ends of a cycle
---   lost_size       == the judge in bytes that are long enough has sixteen lost counts
+--   lost_size  == the judge in bytes that are long enough has sixteen lost counts
 --   step_short_judge, step_short_broken, step_unknown, step_known == the ends of a step
 use Prim.Native.Nat.{ℕ, ◌≤◌, ◌<◌}
 use mathlib.Core.Path.{◌≡◌, sym, ◌∙◌, ap}

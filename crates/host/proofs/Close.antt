@@ -1,13 +1,13 @@
 -- The ends of the two calls, over plain values: S and L are the lent buffers, S' and L' the same at exit.
 --
---   some            == a refusal's number is not 0
---   unsound, sound  == what the bytes lead to: 10, or the step of the state that they write
+--   some           == a refusal's number is not 0
+--   unsound, sound == what the bytes lead to: 10, or the step of the state that they write
 --   refusal_10, refusal_8, refusal_none, refusal_of == the ends of finding the number
 --   many, enters, enters_invalid, enters_unready == the ends of the tests of a step
---   next_formed     == the state after a cycle is well formed
+--   next_formed    == the state after a cycle is well formed
 --   step_short_state, step_short_shown, step_refused, step_taken == the ends of a step, whatever it shows
 --   small, outputs_size == the outputs as numbers
---   ready_sound     == a reset that is not refused gives a well-formed state
+--   ready_sound    == a reset that is not refused gives a well-formed state
 --   reset_short, reset_refused, reset_ready == the ends of a reset
 use Prim.Native.Nat.{ℕ, ◌≤◌, ◌<◌}
 use mathlib.Core.Path.{◌≡◌, refl, sym, ◌∙◌, ap}

@@ -1,7 +1,7 @@
 -- The few tests of a stimulus say what the definitions do.
 --
---   fits_of         == the columns of a valid stimulus fit their places in a line
---   valid_is        == the tests, and what they come to
+--   fits_of  == the columns of a valid stimulus fit their places in a line
+--   valid_is == the tests, and what they come to
 use Prim.Native.Nat.{ℕ, ◌/◌, ◌^◌, ◌≤◌}
 use mathlib.Core.Path.{◌≡◌, refl}
 use mathlib.Core.Bool.{Bool, true, not, ◌&&◌, false≢true}

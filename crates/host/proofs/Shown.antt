@@ -1,8 +1,8 @@
 -- The line of a cycle, from its outputs as numbers.
 --
---   outputs_again   == the bytes of outputs write them
---   Shown ..        == what a step that was taken showed as numbers, and what the line of it needs
---   shown           == of a call that answered 0
+--   outputs_again == the bytes of outputs write them
+--   Shown ..      == what a step that was taken showed as numbers, and what the line of it needs
+--   shown         == of a call that answered 0
 --   line_refused, line_taken == the ends of the step with the line
 use Prim.Native.Nat.{ℕ, ◌+◌, ◌*◌, ◌/◌, ◌%◌, ◌≤◌, ◌<◌}
 use mathlib.Core.Path.{◌≡◌, refl, sym, ◌∙◌, ap}

@@ -5,7 +5,7 @@
 --   Enters S x r n b == r is the number that the step answers, and where that is 0 the cycle may be taken
 --   Took n b x o S S' == it was taken: the outputs o were shown, and the bytes S' have the state after it
 --   Small o          == all outputs but HGRANT fit into a byte
---   outputs_in b      == the outputs that the bytes b write
+--   outputs_in b     == the outputs that the bytes b write
 use Rattle.std.specs.Prelude.{ℕ, ◌+◌, ◌*◌, ◌<◌, ◌≡◌, List, get_or}
 use Rattle.rules.specs.declared.Check.TheVariants.{Good}
 use Rattle.rules.specs.declared.State.{State}

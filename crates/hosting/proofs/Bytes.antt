@@ -1,9 +1,9 @@
 -- The twelve bytes and the well-formed states correspond one to one.
 --
---   left_small  == k of a well-formed state is a byte
+--   left_small      == k of a well-formed state is a byte
 --   state_bytes_lem == a well-formed state has twelve bytes
---   state_again == they write that state, whatever follows them
---   bytes_again == bytes that write a state are its bytes
+--   state_again     == they write that state, whatever follows them
+--   bytes_again     == bytes that write a state are its bytes
 use Prim.Native.Nat.{ℕ, zero, suc, ◌≤◌, ◌<◌}
 use mathlib.Core.Path.{◌≡◌, refl, sym, ◌∙◌}
 use mathlib.Core.Bool.{Bool, true, false, ◌||◌}

@@ -1,16 +1,16 @@
 -- The host's calls are the plain ones, of the state that its bytes write.
 --
 --   short_state, short_shown, short_reset == a buffer that is too short is refusal 9
---   plain_step     == with both buffers long enough, a call is the step of the state that the bytes write
---   plain_reset    == with the buffer long enough, a call is the reset
---   plain_number   == it answers the number that the step answers
---   plain_bytes    == where the step is taken, the buffers get the bytes of the state and of the line that follow
+--   plain_step   == with both buffers long enough, a call is the step of the state that the bytes write
+--   plain_reset  == with the buffer long enough, a call is the reset
+--   plain_number == it answers the number that the step answers
+--   plain_bytes  == where the step is taken, the buffers get the bytes of the state and of the line that follow
 --   refused_unchanged == a call that answers another number than 0 changes no byte
---   no_state       == bytes that write no state are refusal 10
+--   no_state     == bytes that write no state are refusal 10
 --   Follows, follows == what a call that was taken started from, and what it leaves
---   step_known     == the bytes that such a call leaves write the state that follows
+--   step_known   == the bytes that such a call leaves write the state that follows
 --   step_call_unique, reset_call_unique == two results that meet a call's contract are equal
---   reset_known    == the bytes that a reset leaves write the reset state, for n from 2 to 16
+--   reset_known  == the bytes that a reset leaves write the reset state, for n from 2 to 16
 use Prim.Native.Nat.{ℕ, ◌≤◌, ◌<◌}
 use mathlib.Core.Path.{◌≡◌, refl, sym, ◌∙◌}
 use mathlib.Core.Bool.{true}

@@ -2,15 +2,15 @@
 -- 31 bytes are used." A refusal changes no byte of either buffer. A step shows its cycle in a second buffer: as the trace line, or its six
 -- outputs as numbers.
 --
---   output_bytes o        == the six outputs as eight bytes
+--   output_bytes o      == the six outputs as eight bytes
 --   Display, as_line, as_numbers == what the second buffer gets: so many bytes, and which
---   lent a b c d e       == the five inputs that the host passes as numbers
+--   lent a b c d e      == the five inputs that the host passes as numbers
 --   host_step d state shown x == what a step of the lent bytes comes to
 --   state_stored s buffer, cycle_stored d c buffer == a buffer that gets the state s, or the cycle c
---   host_number o         == the number that it answers: 0, or that of the refusal
+--   host_number o       == the number that it answers: 0, or that of the refusal
 --   host_state o buffer, host_shown d o buffer == the two buffers afterwards
---   host_reset n state    == what a reset of the lent bytes comes to; reset_answer gives its number
---   host_start a buffer   == the buffer afterwards
+--   host_reset n state  == what a reset of the lent bytes comes to; reset_answer gives its number
+--   host_start a buffer == the buffer afterwards
 --   StepCall d, ResetCall == the contracts of the calls
 use Rattle.std.specs.Prelude.{ℕ, ◌≡◌, cond, List, [], ◌∷◌, ◌++◌, ltb, length, drop}
 use Rattle.rules.specs.declared.Refusal.TheVariants.{Short, State as StateRefusal}

@@ -1,8 +1,8 @@
 -- The bytes of some states, to be read beside the page: "n, g, m, HMASTLOCK, GRANTED, phase (0 Fresh, 1 Fixed, 2 Open, 3 Done), k (0 unless
 -- Fixed), 0, then the count, low byte first".
 --
---   states, written    == states, and the twelve bytes of each; a state has another byte in every place where two could be swapped
---   outputs, numbers   == what two cycles show, and the eight bytes of each
+--   states, written  == states, and the twelve bytes of each; a state has another byte in every place where two could be swapped
+--   outputs, numbers == what two cycles show, and the eight bytes of each
 use Rattle.std.specs.Prelude.{ℕ, Bool, true, false, List, [], ◌∷◌}
 use Rattle.rules.specs.declared.Phase.{Phase}
 use Rattle.rules.specs.declared.Phase.TheVariants.{Fresh, Fixed, Open, Done}

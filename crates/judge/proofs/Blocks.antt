@@ -1,10 +1,10 @@
 -- The judging program from read to read.
 --
---   answered       == what a call answered, sorted
---   roomy          == what was read has room for what it comes to
---   stays          == what is kept stays well formed
---   nearer         == a program that went on read at least a byte of no more than 1,000,001 lines
---   lent, wide     == the program's buffers, and their room for what a header comes to
+--   answered   == what a call answered, sorted
+--   roomy      == what was read has room for what it comes to
+--   stays      == what is kept stays well formed
+--   nearer     == a program that went on read at least a byte of no more than 1,000,001 lines
+--   lent, wide == the program's buffers, and their room for what a header comes to
 --   begun_formed, begins, refuses == a header that is accepted begins with a tally of nothing; one that is refused ends the program
 use Prim.Native.Nat.{ℕ, ◌+◌, ◌*◌, ◌≤◌, ◌<◌}
 use mathlib.Core.Path.{◌≡◌, refl, sym, ◌∙◌, ap}

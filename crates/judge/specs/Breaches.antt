@@ -1,7 +1,7 @@
 -- What the judging program's contracts cite beside the definitions of the other crates.
 --
---   named b            == the breaches that it has named so far
---   Answered a on e b  == what it makes of the answer a of a header or a block, where its bytes were given or not
+--   named b           == the breaches that it has named so far
+--   Answered a on e b == what it makes of the answer a of a header or a block, where its bytes were given or not
 use Rattle.std.specs.Prelude.{ℕ, ◌≡◌, Bool, ◌&&◌}
 use Rattle.streams.specs.declared.Tally.{Tally}
 use Rattle.streams.specs.declared.JudgeStretch.{JudgeStretch}

@@ -1,10 +1,10 @@
 -- How the parts of a step come together, over plain values.
 --
---   taken            == a cycle that is taken
---   good, bad        == the two ends of a tested cycle
---   sound            == a judge that passes its test is well formed
+--   taken     == a cycle that is taken
+--   good, bad == the two ends of a tested cycle
+--   sound     == a judge that passes its test is well formed
 --   malformed, full, gone_on == the three ends of a step
---   flagged          == the same step with a flag for each rule
+--   flagged   == the same step with a flag for each rule
 use Prim.Native.Nat.{ℕ, ◌≤◌, ◌<◌}
 use mathlib.Core.Path.{◌≡◌, refl, sym, ◌∙◌}
 use mathlib.Core.Bool.{Bool, true, false, not}

@@ -1,6 +1,6 @@
 -- The arms of the watch, over plain values.
 --
---   of_fixed     == a fixed burst's watch
+--   of_fixed             == a fixed burst's watch
 --   on_g2_lem, on_g3_lem == a watch after a later cycle
 use Prim.Native.Nat.{ℕ, ◌-◌}
 use mathlib.Core.Path.{◌≡◌}

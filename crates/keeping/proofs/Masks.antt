@@ -1,10 +1,10 @@
 -- Masks compared as a whole instead of master by master, once, over the number of masters.
 --
 --   high_and, high_or, high_xor == a bit of a & b, of a | b, of a ^ b
---   high_without      == a bit of the mask of those in a and not in b
---   masks_differ      == two masks below 2 ^ k differ where some bit below k does
---   some_common       == some master is in both masks: a & b is not 0
---   some_outside      == some master is in a and not in b: a & b is not a
+--   high_without == a bit of the mask of those in a and not in b
+--   masks_differ == two masks below 2 ^ k differ where some bit below k does
+--   some_common  == some master is in both masks: a & b is not 0
+--   some_outside == some master is in a and not in b: a & b is not a
 use Prim.Native.Nat.{ℕ, zero, suc, ◌+◌, ◌*◌, ◌/◌, ◌%◌, ◌^◌, ◌<◌, min, max}
 use mathlib.Core.Path.{◌≡◌, refl, sym, ◌∙◌, ap, fun_ext}
 use mathlib.Core.Bool.{Bool, true, false, not, ◌&&◌, ◌||◌, beq}

@@ -3,10 +3,10 @@
 --   stimulus_at, trace_at       == the answer at a spot that is not inside the input
 --   stimulus_whole, trace_whole == the answer at a whole line
 --   stimulus_cut, trace_cut     == the answer at a line that is cut, or whose separators are not in their places
---   stimulus_refused, trace_refused == the first end of a writer: its tests refused
---   stimulus_short, trace_short     == the second: the buffer is too short
+--   stimulus_refused, trace_refused         == the first end of a writer: its tests refused
+--   stimulus_short, trace_short             == the second: the buffer is too short
 --   stimulus_written_lem, trace_written_lem == the third: the line is written
---   stimulus_small, trace_small     == before the third, the columns that are written by one addition
+--   stimulus_small, trace_small             == before the third, the columns that are written by one addition
 use Prim.Native.Nat.{ℕ, ◌≤◌, ◌<◌}
 use mathlib.Core.Path.{◌≡◌, refl, sym, ap, ◌∙◌}
 use mathlib.Core.Bool.{Bool, true, false, cond}

@@ -1,10 +1,10 @@
 -- The answer of a reader, from the spot where it stands and the test of a whole line.
 --
 --   spot_wrong, spot_beyond, spot_ended, spot_inside == the spot, from the tests
---   inside_within     == a spot inside the input
---   whole_fits        == a whole line ends within the input
---   answer_by_spot    == the definition's answer, by the spot
---   by_check          == the answer by what a test of the columns found
+--   inside_within  == a spot inside the input
+--   whole_fits     == a whole line ends within the input
+--   answer_by_spot == the definition's answer, by the spot
+--   by_check       == the answer by what a test of the columns found
 use Prim.Native.Nat.{ℕ, ◌+◌, ◌-◌, ◌≤◌, ◌<◌}
 use mathlib.Core.Path.{◌≡◌, refl, sym, ap, ◌∙◌}
 use mathlib.Core.Bool.{Bool, true, false, not, ◌&&◌, cond}

@@ -1,9 +1,9 @@
 -- HMASTLOCK, GRANTED, the phase and k as one number v, in which each has a byte.
 --
---   same_flag       == two flags, each of which is high where the other is
+--   same_flag == two flags, each of which is high where the other is
 --   Small v, small_of, of_small == the flags below 2, the phase and k below 4, as facts
---   small_sum       == they are so exactly where v is the sum of the bits that they may have
---   place_is        == the place of such
+--   small_sum == they are so exactly where v is the sum of the bits that they may have
+--   place_is  == the place of such
 use Prim.Native.Nat.{ℕ, ◌+◌, ◌*◌, ◌/◌, ◌%◌, ◌≤◌, ◌<◌}
 use mathlib.Core.Path.{◌≡◌, refl, sym, ap, ◌∙◌}
 use mathlib.Core.Bool.{Bool, true, false}

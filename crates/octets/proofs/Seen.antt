@@ -1,7 +1,7 @@
 -- What lent bytes hold: l, a, p and k are the bytes of HMASTLOCK, GRANTED, the phase and k, and v is the number of the four.
 --
---   seen            == what is seen of the bytes is what they hold
---   state_stored_lem    == the twelve stores of a state
+--   seen             == what is seen of the bytes is what they hold
+--   state_stored_lem == the twelve stores of a state
 use Prim.Native.Nat.{ℕ, zero, suc, ◌+◌, ◌-◌, ◌*◌, ◌/◌, ◌%◌, ◌≤◌}
 use mathlib.Core.Path.{◌≡◌, sym, ◌∙◌}
 use mathlib.Core.Bool.{Bool, true, ◌&&◌, ◌||◌}

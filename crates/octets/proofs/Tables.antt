@@ -1,8 +1,8 @@
 -- The tables: what is shown of each entry, once it is computed for all.
 --
---   fits_entry      == the bit of each place
---   phase_entry     == the digit of each place, which is 5 at most
---   byte_entry      == the digit of each phase's number
+--   fits_entry  == the bit of each place
+--   phase_entry == the digit of each place, which is 5 at most
+--   byte_entry  == the digit of each phase's number
 use Prim.Native.Nat.{ℕ, ◌*◌, ◌/◌, ◌%◌, ◌^◌, ◌≤◌, ◌<◌}
 use mathlib.Core.Path.{◌≡◌}
 use mathlib.Core.Bool.{true}

@@ -1,10 +1,10 @@
 -- What lent bytes hold, in plain numbers. HMASTLOCK, GRANTED, the phase and k are read as one number v, in which each has a byte.
 --
---   sound_in b          == b begins with the bytes of a well-formed state
---   small v            == in v the flags are below 2, and the phase and k below 4
---   place_of v          == the four of v side by side, in bits of 1, 1, 2 and 2: 64 places
---   fitting l a p k    == a well-formed state may have the bytes l, a, p and k there
---   Holds b h          == h is what b holds
+--   sound_in b      == b begins with the bytes of a well-formed state
+--   small v         == in v the flags are below 2, and the phase and k below 4
+--   place_of v      == the four of v side by side, in bits of 1, 1, 2 and 2: 64 places
+--   fitting l a p k == a well-formed state may have the bytes l, a, p and k there
+--   Holds b h       == h is what b holds
 use Rattle.std.specs.Prelude.{ℕ, ◌+◌, ◌*◌, ◌/◌, ◌%◌, ◌≡◌, Bool, true, ◌&&◌, ◌||◌, List, eqb, leb}
 use Rattle.rules.specs.State.{phase_ok, well_formed}
 use Rattle.buses.specs.Buses.{state_from, Fit}

@@ -1,7 +1,7 @@
 -- The outputs of any cycle, written by words.
 --
---   grant_number    == the number that the text of HGRANT and HMASTER is
---   outputs_put     == the outputs: two words, one after the other
+--   grant_number == the number that the text of HGRANT and HMASTER is
+--   outputs_put  == the outputs: two words, one after the other
 use Prim.Native.Nat.{ℕ, ◌+◌, ◌*◌, ◌/◌, ◌≤◌, ◌<◌}
 use mathlib.Core.Path.{◌≡◌, refl, ap, ◌∙◌}
 use mathlib.Core.List.{List, ◌++◌}

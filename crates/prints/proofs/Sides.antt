@@ -1,9 +1,9 @@
 -- Numbers side by side in one number.
 --
---   apart           == two masks with a byte of room after each of their bytes
---   nibbles         == their digits, a byte each
---   letter_bits     == for each of eight bytes whether 16 is in it
---   turned          == four bytes in the other order
+--   apart       == two masks with a byte of room after each of their bytes
+--   nibbles     == their digits, a byte each
+--   letter_bits == for each of eight bytes whether 16 is in it
+--   turned      == four bytes in the other order
 --   digits_small, letters_small == how large such numbers are
 use Prim.Native.Nat.{ℕ, ◌+◌, ◌*◌, ◌/◌, ◌%◌, ◌^◌, ◌<◌}
 use mathlib.Core.Path.{◌≡◌, ◌∙◌}

@@ -1,8 +1,8 @@
 -- A line that is written by words, each over the end of the one before.
 --
---   put_across      == bytes written from a place on take the place of what stands there
---   inputs_put      == the inputs: three words
---   line_put        == the whole line: the inputs, and the outputs over their end
+--   put_across == bytes written from a place on take the place of what stands there
+--   inputs_put == the inputs: three words
+--   line_put   == the whole line: the inputs, and the outputs over their end
 use Prim.Native.Nat.{ℕ, suc, ◌+◌, ◌*◌, ◌/◌, ◌≤◌, ◌<◌}
 use mathlib.Core.Path.{◌≡◌, refl, ap, ◌∙◌}
 use mathlib.Core.List.{List, [], ◌∷◌, ◌++◌}

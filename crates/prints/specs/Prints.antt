@@ -1,10 +1,10 @@
 -- What a trace line is made of, where it is written by words.
 --
---   digits_low m     == the four hex digits of the mask m, lowest first
---   letters_of l     == for each byte of l whether 16 is in it
+--   digits_low m    == the four hex digits of the mask m, lowest first
+--   letters_of l    == for each byte of l whether 16 is in it
 --   backwards l     == l in the other order
---   inputs_bytes x   == the text of the inputs, up to the last of them
---   grant_bytes h m  == the text of HGRANT and HMASTER, with the tabs round them
+--   inputs_bytes x  == the text of the inputs, up to the last of them
+--   grant_bytes h m == the text of HGRANT and HMASTER, with the tabs round them
 --   Fits x, FitsOut o == each input, and each output, fits its column
 use Rattle.std.specs.Prelude.{ℕ, ◌+◌, ◌/◌, ◌%◌, ◌≤◌, ◌<◌, List, [], ◌∷◌, ◌++◌}
 use Rattle.rules.specs.declared.Inputs.{Inputs}

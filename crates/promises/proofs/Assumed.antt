@@ -1,7 +1,7 @@
 -- What is broken in the trace of a run from reset are assumptions only.
 --
---   each_those      == of the rules that have f, each is what having f makes it
---   each_place      == of the list f 0, f 1, .., likewise
+--   each_those == of the rules that have f, each is what having f makes it
+--   each_place == of the list f 0, f 1, .., likewise
 --   only_assumptions == no rule of the broken ones is a guarantee
 use Prim.Native.Nat.{ℕ, zero, suc, ◌<◌}
 use mathlib.Core.Path.{◌≡◌, refl, sym, ◌∙◌}

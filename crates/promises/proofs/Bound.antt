@@ -3,9 +3,9 @@
 --
 --   Ahead C k w v granted own == v ready cycles without being handed are not too many: k are left to the access that runs, w decisions
 --                                can still be lost, and own says whether the grant is the master's
---   cycle_ahead    == one cycle keeps that
---   not_too_many   == so a run in which the master is not handed the bus has not too many ready cycles
---   bound          == the promise
+--   cycle_ahead  == one cycle keeps that
+--   not_too_many == so a run in which the master is not handed the bus has not too many ready cycles
+--   bound        == the promise
 use Prim.Native.Nat.{ℕ, zero, suc, ◌+◌, ◌-◌, ◌*◌, ◌≤◌, ◌<◌}
 use mathlib.Core.Path.{◌≡◌, refl, ap, subst}
 use mathlib.Core.Bool.{Bool, true, false, ◌&&◌, cond, true≢false, false≢true}

@@ -1,8 +1,8 @@
 -- The judge takes every trace that the arbiter shows, and charges no guarantee in it.
 --
---   valid_trace    == every cycle of a run's trace is valid for n
---   trace_length   == and there are not too many
---   cleared        == the judge's verdict
+--   valid_trace  == every cycle of a run's trace is valid for n
+--   trace_length == and there are not too many
+--   cleared      == the judge's verdict
 use Prim.Native.Nat.{ℕ, zero, suc, ◌+◌, ◌<◌}
 use mathlib.Core.Path.{◌≡◌, refl, sym, ◌∙◌, subst}
 use mathlib.Core.Bool.{true≢false}

@@ -2,8 +2,8 @@
 --
 --   standing n t prev line == where the program stands after t cycles, the last of which is prev
 --   drawn_turn, drawn_end == one line, and the end of the input
---   drawn_lines    == all the lines that are left, and then what the rest comes to
---   drawn_program  == the header, the lines, and then the rest
+--   drawn_lines   == all the lines that are left, and then what the rest comes to
+--   drawn_program == the header, the lines, and then the rest
 use Prim.Native.Nat.{ℕ, zero, suc, ◌+◌, ◌≤◌, ◌<◌}
 use mathlib.Core.Path.{◌≡◌, sym, ◌∙◌, ap}
 use mathlib.Core.List.{List, [], ◌∷◌, ◌++◌, append_assoc}

@@ -1,8 +1,8 @@
 -- Every input of vcd2trace has exactly one form.
 --
 --   Stand pre t prev cs == the good steps cs stand after pre, from the time t on, and end at no more or at a refusal
---   steps_found    == there are such steps, whatever stands before them
---   steps_same     == and no others
+--   steps_found == there are such steps, whatever stands before them
+--   steps_same  == and no others
 --   every_dump_has_one_form == the promise
 use Prim.Native.Nat.{ℕ, zero, suc, ◌+◌, ◌≤◌, ◌<◌}
 use mathlib.Core.Path.{◌≡◌, refl, sym, ◌∙◌, ap, subst}

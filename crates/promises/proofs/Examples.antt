@@ -1,8 +1,8 @@
 -- No promise is empty: runs that meet the premises, from the page and the worst cases.
 --
---   page_run       == the whole run that document 01 prints, with the trace that it prints
---   worst_run      == with two masters and nobody locking, master 0 waits the full 5n = 10 ready cycles
---   losing_run     == with three masters, master 0 requests at every decision and loses n - 1 = 2 in a row
+--   page_run   == the whole run that document 01 prints, with the trace that it prints
+--   worst_run  == with two masters and nobody locking, master 0 waits the full 5n = 10 ready cycles
+--   losing_run == with three masters, master 0 requests at every decision and loses n - 1 = 2 in a row
 use Prim.Native.Nat.{ℕ}
 use mathlib.Core.Path.{◌≡◌, refl}
 use mathlib.Core.Bool.{Bool, true, false, false≢true}

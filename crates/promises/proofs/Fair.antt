@@ -1,8 +1,8 @@
 -- The shares: who requests at every decision loses at most n - 1 in a row, and nobody wins twice in the meantime.
 --
---   reached_sound  == every state that a run reaches is well formed, and has the n of its reset
---   few_losses     == decisions lost in a row are no more than the turns
---   one_win_each   == in such a stretch no master wins twice
+--   reached_sound == every state that a run reaches is well formed, and has the n of its reset
+--   few_losses    == decisions lost in a row are no more than the turns
+--   one_win_each  == in such a stretch no master wins twice
 use Prim.Native.Nat.{ℕ, ◌+◌, ◌≤◌, ◌<◌}
 use mathlib.Core.Path.{◌≡◌, refl, sym, ◌∙◌, subst}
 use mathlib.Core.Bool.{Bool, true, false, ◌&&◌, cond}

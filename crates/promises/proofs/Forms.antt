@@ -1,11 +1,11 @@
 -- Every input has exactly one form, over any kind of file whose reader and writer agree.
 --
---   Laws K         == what is asked of a kind: the lengths and the round trips of its lines, and where they end
---   End l k room   == the good lines end at what was found: at the end of the input, at a refusal, or where there is room for no more
+--   Laws K       == what is asked of a kind: the lengths and the round trips of its lines, and where they end
+--   End l k room == the good lines end at what was found: at the end of the input, at a refusal, or where there is room for no more
 --   Stand pre room l == the good lines l stand after pre, and end there
---   lines_found    == there are such lines, whatever stands before them
---   lines_same     == and no others
---   one_form       == the promise, for a kind with these laws
+--   lines_found  == there are such lines, whatever stands before them
+--   lines_same   == and no others
+--   one_form     == the promise, for a kind with these laws
 use Prim.Native.Nat.{ℕ, zero, suc, ◌+◌, ◌≤◌, ◌<◌}
 use mathlib.Core.Path.{◌≡◌, refl, sym, ◌∙◌, ap, subst}
 use mathlib.Core.List.{List, [], ◌∷◌, ◌++◌, append_assoc, append-nil}

@@ -1,8 +1,8 @@
 -- Runs from reset with what they have shown so far, the newest cycle first, and the columns of a cycle that the arbiter shows.
 --
---   cycle_of s x    == the cycle that the arbiter shows in the state s with the inputs x
---   History n s h  == a run from reset with n masters that has shown the history h and stands in s
---   shown-*        == what the columns of such a cycle say
+--   cycle_of s x  == the cycle that the arbiter shows in the state s with the inputs x
+--   History n s h == a run from reset with n masters that has shown the history h and stands in s
+--   shown-*       == what the columns of such a cycle say
 use Prim.Native.Nat.{ℕ}
 use mathlib.Core.Path.{◌≡◌, refl, sym, ◌∙◌, ap, subst}
 use mathlib.Core.Bool.{Bool, ◌&&◌}

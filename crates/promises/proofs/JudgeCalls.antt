@@ -1,9 +1,9 @@
 -- The promises of specs/JudgeCalls.antt, each under its name.
 --
---   mask_read      == the mask that a step leaves, read again, and its bits
+--   mask_read == the mask that a step leaves, read again, and its bits
 --   Stepped, stepped == what a step that answered 0 did
 --   RunOf, run_of_calls == calls from the bytes of the judge of a history judge what follows it
---   calls_of       == and every list of cycles that the judge takes has such calls
+--   calls_of  == and every list of cycles that the judge takes has such calls
 use Prim.Native.Nat.{ℕ, zero, suc, ◌≤◌, ◌<◌}
 use mathlib.Core.Path.{◌≡◌, refl, sym, ◌∙◌, ap, subst}
 use mathlib.Core.Bool.{Bool}

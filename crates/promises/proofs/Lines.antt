@@ -1,8 +1,8 @@
 -- A program that goes through a whole file, one line a turn.
 --
---   one_line       == a line at the front of the input is taken by one turn
---   lines_long     == a line has bytes, so there are no more lines than bytes
---   file_fuel      == so a program has a turn for each line of a file, and one more, whatever comes after them
+--   one_line   == a line at the front of the input is taken by one turn
+--   lines_long == a line has bytes, so there are no more lines than bytes
+--   file_fuel  == so a program has a turn for each line of a file, and one more, whatever comes after them
 use Prim.Native.Nat.{ℕ, suc, ◌≤◌, ◌<◌}
 use mathlib.Core.Path.{◌≡◌}
 use mathlib.Core.List.{List, [], ◌∷◌, ◌++◌}

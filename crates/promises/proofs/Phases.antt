@@ -1,9 +1,9 @@
 -- The phase is a word about the access that runs: what G2 and G3 watch, and more, is over before GRANTED can rise.
 --
---   Stands p a     == the access, at its opening a, stands as the phase p says
---   stands_next    == one cycle keeps that
---   no_g2, no_g3   == no watched burst is cut
---   no_cut         == no fixed burst is cut, locked or not
+--   Stands p a   == the access, at its opening a, stands as the phase p says
+--   stands_next  == one cycle keeps that
+--   no_g2, no_g3 == no watched burst is cut
+--   no_cut       == no fixed burst is cut, locked or not
 use Prim.Native.Nat.{ℕ, ◌+◌, ◌-◌, ◌≤◌}
 use mathlib.Core.Path.{◌≡◌, refl, sym, ◌∙◌, subst}
 use mathlib.Core.Bool.{Bool, true, false, not, ◌&&◌, cond, false≢true, and-false}

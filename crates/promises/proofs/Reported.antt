@@ -1,9 +1,9 @@
 -- The judging program on the lines of a trace that the judge takes: it writes what the judge charges, and how much it is.
 --
---   tally_of j b    == what the program keeps: the judge, and the breaches so far
+--   tally_of j b  == what the program keeps: the judge, and the breaches so far
 --   trace_turn, end_turn == one line, and the end of the input
---   judged_lines   == all the lines that are left, and then what the rest comes to
---   judging_keeps  == the masters stay, and the cycles are counted
+--   judged_lines  == all the lines that are left, and then what the rest comes to
+--   judging_keeps == the masters stay, and the cycles are counted
 use Prim.Native.Nat.{ℕ, zero, suc, ◌+◌, ◌<◌}
 use mathlib.Core.Path.{◌≡◌, refl, sym, ◌∙◌, ap, subst}
 use mathlib.Core.List.{List, [], ◌∷◌, ◌++◌, append_assoc}

@@ -1,8 +1,8 @@
 -- The arbiter of document 01 serves in turn.
 --
---   turns_of s i    == how many decisions master i can still lose in the state s
---   loss_nearer    == a decision that a requesting master loses brings its turn nearer
---   served         == all the laws together
+--   turns_of s i == how many decisions master i can still lose in the state s
+--   loss_nearer  == a decision that a requesting master loses brings its turn nearer
+--   served       == all the laws together
 use Prim.Native.Nat.{ℕ, ◌<◌}
 use mathlib.Core.Path.{◌≡◌, refl, sym, ◌∙◌, ap}
 use mathlib.Core.Bool.{Bool, true, false, ◌&&◌, cond, true≢false, false≢true}

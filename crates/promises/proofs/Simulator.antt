@@ -1,9 +1,9 @@
 -- The promises of specs/Simulator.antt, each under its name.
 --
---   Stepped        == what a call that answered 0 did
---   stepped        == a call that answered 0 took a step of the state whose bytes it was lent
---   run_of_calls   == calls from the bytes of a well-formed state are a run from it
---   calls_of       == and every list of valid inputs has such calls
+--   Stepped      == what a call that answered 0 did
+--   stepped      == a call that answered 0 took a step of the state whose bytes it was lent
+--   run_of_calls == calls from the bytes of a well-formed state are a run from it
+--   calls_of     == and every list of valid inputs has such calls
 use Prim.Native.Nat.{ℕ, ◌≤◌}
 use mathlib.Core.Path.{◌≡◌, refl, sym, ◌∙◌, ap, ap₂, subst}
 use mathlib.Core.Bool.{Bool, true, false}

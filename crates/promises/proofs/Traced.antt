@@ -1,9 +1,9 @@
 -- The arbiter program on the lines of a run's inputs: it writes the lines of the run's trace.
 --
---   stimulus_turn  == one line
---   end_turn       == the end of the input
---   run_lines      == all the lines that are left, and then what the rest comes to
---   run_count      == the cycles are counted
+--   stimulus_turn == one line
+--   end_turn      == the end of the input
+--   run_lines     == all the lines that are left, and then what the rest comes to
+--   run_count     == the cycles are counted
 use Prim.Native.Nat.{ℕ, zero, suc, ◌+◌, ◌<◌}
 use mathlib.Core.Path.{◌≡◌, sym, ◌∙◌, ap, subst}
 use mathlib.Core.List.{List, [], ◌++◌, append_assoc}

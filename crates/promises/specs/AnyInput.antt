@@ -1,20 +1,20 @@
 -- The promises over every input whatever: it has exactly one of three forms, and what a program writes is said of each.
 --
 -- The header is refused; or good lines stand after it and the line after them is refused; or the input is valid to its end.
--- proofs/AnyInput.antt has the proof of each promise, under the same name in lower case with hyphens.
+-- proofs/AnyInput.antt has the proof of each promise, under the same name in lower case with underscores.
 --
---   Kind A             == a kind of file with lines of A: its word, the bytes of a line, the reader of a line, and the test of a line for n
---   traces, stimuli    == the two kinds
---   file_for K n l      == the file of the header with n and the lines l
+--   Kind A           == a kind of file with lines of A: its word, the bytes of a line, the reader of a line, and the test of a line for n
+--   traces, stimuli  == the two kinds
+--   file_for K n l   == the file of the header with n and the lines l
 --   Begins K s n l rest == the input s is such a file with good lines, no more than a run may have, and then the rest
---   Form A             == a form of an input: its refusal, or its n and its good lines, and the refusal after them if there is one
---   Stops a k r        == after k good lines, what the reader found is refused by r
---   Has K s f          == the input s has the form f
---   OneForm K          == every input has exactly one form
---   Numbers K          == which numbers the refusals of a form have
---   report_on f         == what the judging program writes for an input of that form
+--   Form A           == a form of an input: its refusal, or its n and its good lines, and the refusal after them if there is one
+--   Stops a k r      == after k good lines, what the reader found is refused by r
+--   Has K s f        == the input s has the form f
+--   OneForm K        == every input has exactly one form
+--   Numbers K        == which numbers the refusals of a form have
+--   report_on f      == what the judging program writes for an input of that form
 --   TraceAnd n xs last out == out is the trace of the run from reset over the inputs xs, and then the bytes last
---   Arbitrated f out   == out is what the arbiter program writes for an input of that form
+--   Arbitrated f out == out is what the arbiter program writes for an input of that form
 use Rattle.std.specs.Prelude.{ℕ, ◌+◌, ◌≤◌, ◌<◌, ◌≡◌, ◌⊎◌, List, [], ◌++◌, length}
 use Rattle.rules.specs.declared.Refusal.{Refusal}
 use Rattle.rules.specs.declared.Refusal.TheVariants as refusal

@@ -1,7 +1,7 @@
 -- The promises over a C caller of the judge: a start and then any steps over the same 42 bytes judge what was recorded, cycle by cycle.
 --
 -- The calls stand here by their contracts, JudgeStepCall and JudgeStartCall of docketing/specs/Calls.antt, which the exported functions meet.
--- proofs/JudgeCalls.antt has the proof of each promise, under the same name in lower case with hyphens.
+-- proofs/JudgeCalls.antt has the proof of each promise, under the same name in lower case with underscores.
 --
 --   bit_of mask i       == bit i of a mask that lies in bytes, low byte first
 --   Calls judge cs masks last == steps one after the other, from the bytes `judge` to the bytes `last`: those that answered 0 had the cycles cs

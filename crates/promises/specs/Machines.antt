@@ -1,10 +1,10 @@
 -- Arbiters as machines that go from place to place, and the arbiter of document 01 as one of them.
 --
---   Machine            == an arbiter: its places, the state of document 01 in each, and its steps
---   machine_of step     == the machine of a step function: it goes on where the step is not refused
---   arbiter, the_step   == the arbiter of document 01, and its step
---   decision s x       == DECIDE in the state s with the inputs x
---   InTurn M           == the laws of an arbiter that serves its masters in turn: all that the bounds ask of it
+--   Machine           == an arbiter: its places, the state of document 01 in each, and its steps
+--   machine_of step   == the machine of a step function: it goes on where the step is not refused
+--   arbiter, the_step == the arbiter of document 01, and its step
+--   decision s x      == DECIDE in the state s with the inputs x
+--   InTurn M          == the laws of an arbiter that serves its masters in turn: all that the bounds ask of it
 use Rattle.std.specs.Prelude.{ℕ, ◌<◌, ◌≡◌, Bool, true, false, ◌&&◌, cond}
 use Rattle.rules.specs.declared.State.{State}
 use Rattle.rules.specs.declared.Inputs.{Inputs}

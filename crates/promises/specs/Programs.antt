@@ -1,9 +1,9 @@
 -- The promises over whole programs: what they write for a whole file, in words of the rules and of runs.
 --
--- proofs/Programs.antt has the proof of each promise, under the same name in lower case with hyphens.
+-- proofs/Programs.antt has the proof of each promise, under the same name in lower case with underscores.
 --
---   lines_at t rs       == the breach lines of cycle t, for the rules rs
---   report_from t l     == the breach lines of a report: l has the rules of cycle t, those of the next cycle, and so on
+--   lines_at t rs   == the breach lines of cycle t, for the rules rs
+--   report_from t l == the breach lines of a report: l has the rules of cycle t, those of the next cycle, and so on
 use Rattle.std.specs.Prelude.{ℕ, ◌+◌, ◌≤◌, ◌≡◌, false, List, [], ◌∷◌, ◌++◌, length}
 use Rattle.rules.specs.declared.State.{State}
 use Rattle.rules.specs.declared.Inputs.{Inputs}

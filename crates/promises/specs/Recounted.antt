@@ -1,9 +1,9 @@
 -- The arbiter's count only counts: "At most 1,000,000 cycles a run" limits it, and it says nothing else. So a simulator may set it back and go on
--- for ever. proofs/Recounted.antt has the proof of each promise, under the same name in lower case with hyphens.
+-- for ever. proofs/Recounted.antt has the proof of each promise, under the same name in lower case with underscores.
 --
---   with_count k s      == the state s, with the count k
---   DifferInCount s t  == the states s and t differ in the count alone
---   Alike a b          == the answers a and b show or refuse the same, and leave states that differ in the count alone
+--   with_count k s    == the state s, with the count k
+--   DifferInCount s t == the states s and t differ in the count alone
+--   Alike a b         == the answers a and b show or refuse the same, and leave states that differ in the count alone
 use Rattle.std.specs.Prelude.{ℕ, ◌+◌, ◌≤◌, ◌<◌, ◌≡◌, List, ◌++◌, length, take}
 use Rattle.rules.specs.declared.State.{State}
 use Rattle.rules.specs.declared.Inputs.{Inputs}

@@ -1,15 +1,15 @@
 -- Runs of an arbiter, and what the promises count in them.
 --
---   Run M s xs t       == the machine M takes the inputs xs, one after the other, from the place s to the place t
---   Reached step n t   == the arbiter of this step stands in t after some run from reset with n masters
---   trace_of r          == the cycles that a run shows, oldest first
---   readies r          == its ready cycles
+--   Run M s xs t     == the machine M takes the inputs xs, one after the other, from the place s to the place t
+--   Reached step n t == the arbiter of this step stands in t after some run from reset with n masters
+--   trace_of r       == the cycles that a run shows, oldest first
+--   readies r        == its ready cycles
 --   decisions d r, wins d j r == its decisions, and those that grant master j
---   Requests i r       == HBUSREQ of i is high in every cycle
---   Loses d i r        == i requests at every decision and wins none
---   AtMost C used r    == no access has more than C ready cycles, of which the one that runs has used some
---   handed_by k i r     == the bus is handed to i by the k-th ready cycle
---   Unlocked r         == no master's lock line is high in any cycle
+--   Requests i r     == HBUSREQ of i is high in every cycle
+--   Loses d i r      == i requests at every decision and wins none
+--   AtMost C used r  == no access has more than C ready cycles, of which the one that runs has used some
+--   handed_by k i r  == the bus is handed to i by the k-th ready cycle
+--   Unlocked r       == no master's lock line is high in any cycle
 use Rattle.std.specs.Prelude.{ℕ, ◌+◌, ◌-◌, ◌≤◌, ◌≡◌, Bool, true, false, ◌&&◌, cond, List, [], ◌∷◌, eqb, ltb}
 use Rattle.rules.specs.declared.State.{State}
 use Rattle.rules.specs.declared.Inputs.{Inputs}

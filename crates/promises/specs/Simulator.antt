@@ -2,7 +2,7 @@
 -- they show the trace line or the outputs as numbers.
 --
 -- The calls stand here by their contracts, StepCall and ResetCall of hosting/specs/Calls.antt, which the exported functions meet.
--- proofs/Simulator.antt has the proof of each promise, under the same name in lower case with hyphens.
+-- proofs/Simulator.antt has the proof of each promise, under the same name in lower case with underscores.
 --
 --   Exact d            == what is shown has always the same size
 --   Calls d state xs shown last == steps one after the other, from the bytes `state` to the bytes `last`: those that answered 0 had the inputs xs

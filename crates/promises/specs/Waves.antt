@@ -1,15 +1,15 @@
 -- The promises over whole waveform files: what trace2vcd and vcd2trace write for every input whatever, and that each undoes the other.
 --
 -- An input of vcd2trace has exactly one of three forms, as the inputs of the other programs have: its header is refused; or good steps stand
--- after it and the step after them is refused; or it is a whole dump. Each promise is proved under its name in lower case with hyphens: the one
+-- after it and the step after them is refused; or it is a whole dump. Each promise is proved under its name in lower case with underscores: the one
 -- form in proofs/DumpForms.antt, the numbers in DumpNumbers, what reading tells of a refusal in DumpsRefused, the others in Waves.
 --
---   last_of prev cs     == the last of the cycles cs, and prev where there is none
---   Behind cs rest     == the last of the steps of cs, if there is one, ends before the rest
+--   last_of prev cs == the last of the cycles cs, and prev where there is none
+--   Behind cs rest  == the last of the steps of cs, if there is one, ends before the rest
 --   DumpBegins s n cs rest == the input s is the dump of good cycles, no more than a run may have, and then the rest
---   HasDump s f        == the input s of vcd2trace has the form f
---   dump_on f           == what trace2vcd writes for an input of that form
---   trace_on f          == what vcd2trace writes for an input of that form
+--   HasDump s f     == the input s of vcd2trace has the form f
+--   dump_on f       == what trace2vcd writes for an input of that form
+--   trace_on f      == what vcd2trace writes for an input of that form
 use Rattle.std.specs.Prelude.{ℕ, suc, ◌+◌, ◌≤◌, ◌≡◌, ◌⊎◌, List, [], ◌∷◌, ◌++◌, length}
 use Rattle.rules.specs.declared.Refusal.{Refusal}
 use Rattle.rules.specs.declared.Cycle.{Cycle}

@@ -1,10 +1,10 @@
 -- Four wrong arbiters, each given by its step. The promises shut them out (proofs/Wrong.antt).
 -- The last three refuse exactly what the step of document 01 refuses.
 --
---   refusing       == refuses every cycle
---   favouring      == grants master 0 for ever
---   untouching     == returns its state untouched
---   repeating      == arbitrates the first cycle and then repeats its grants
+--   refusing   == refuses every cycle
+--   favouring  == grants master 0 for ever
+--   untouching == returns its state untouched
+--   repeating  == arbitrates the first cycle and then repeats its grants
 use Rattle.std.specs.Prelude.{false, cond, eqb}
 use Rattle.rules.specs.declared.Refusal.TheVariants as refusal
 use Rattle.rules.specs.declared.State.{State}

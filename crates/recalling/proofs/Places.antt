@@ -1,9 +1,9 @@
 -- Where a block of a dump is cut.
 --
---   NoneIn s k      == no step ends before the last k bytes of s, which are kept, and its last byte
---   cut_found       == a block is cut where a step ends
---   cut_none        == a short one is kept
---   cut_all         == a block with a long step at its end is taken
+--   NoneIn s k == no step ends before the last k bytes of s, which are kept, and its last byte
+--   cut_found  == a block is cut where a step ends
+--   cut_none   == a short one is kept
+--   cut_all    == a block with a long step at its end is taken
 use Prim.Native.Nat.{ℕ, zero, suc, ◌+◌, ◌-◌, ◌≤◌, ◌<◌}
 use mathlib.Core.Path.{◌≡◌, refl, sym, ◌∙◌, ap}
 use mathlib.Core.Bool.{true, false, ◌&&◌}

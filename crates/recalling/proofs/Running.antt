@@ -1,7 +1,7 @@
 -- A block of steps, from step to step.
 --
---   On ..           == where the block stands
---   went_on         == a step that goes on, and how far; went_out: one that stops
+--   On ..   == where the block stands
+--   went_on == a step that goes on, and how far; went_out: one that stops
 --   fits_in, later_length == what a step writes has room, and the buffer keeps its length
 use Prim.Native.Nat.{ℕ, ◌+◌, ◌-◌, ◌≤◌, ◌<◌}
 use mathlib.Core.Path.{◌≡◌, refl, sym, ◌∙◌}

@@ -1,9 +1,9 @@
 -- One step of a dump, taken or refused.
 --
 --   line_here, no_line_here, all_counted == the lines in so many bytes, counted from the last
---   read_as         == what was read, as a match tells it
+--   read_as == what was read, as a match tells it
 --   stepped, stepped_out, stepped_none == a step that is taken; one that is refused; and none
---   sound           == what is known of a step that was read, from a position that is well formed
+--   sound   == what is known of a step that was read, from a position that is well formed
 use Prim.Native.Nat.{ℕ, suc, ◌+◌, ◌-◌, ◌*◌, ◌≤◌, ◌<◌}
 use mathlib.Core.Path.{◌≡◌, refl, sym, ◌∙◌, ap}
 use mathlib.Core.Bool.{true, false, cond, true≢false}

@@ -1,8 +1,8 @@
 -- Where a block of a dump is cut, before it is known what comes after it.
 --
---   ends_at s i      == a step ends at i: an LF stands there, and a `#` behind it
---   Parted a b      == the steps of a are taken and b is kept: whatever comes after b, the input may be cut between them
---   CutAt s r       == r bytes of the block s are taken, and the rest is kept
+--   ends_at s i == a step ends at i: an LF stands there, and a `#` behind it
+--   Parted a b  == the steps of a are taken and b is kept: whatever comes after b, the input may be cut between them
+--   CutAt s r   == r bytes of the block s are taken, and the rest is kept
 use Rattle.std.specs.Prelude.{ℕ, ◌+◌, ◌≤◌, Bool, ◌&&◌, List, ◌++◌, eqb, length, get_or, take, drop}
 use Rattle.formats.specs.Digits.{lf}
 use Rattle.waves.specs.Steps.{hash}

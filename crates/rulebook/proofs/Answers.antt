@@ -1,10 +1,10 @@
 -- The answers of a step and of a start, taken apart once.
 --
---   accepted        == a step that meets no refusal is taken
---   taken           == a step that is taken met none
---   refused         == a step that is refused hands the judge back
+--   accepted      == a step that meets no refusal is taken
+--   taken         == a step that is taken met none
+--   refused       == a step that is refused hands the judge back
 --   next_verdict, next_judge_lem == the answer of a step that is taken
---   begun, begins   == a start is taken exactly for n from 2 to 16, with the judge of a start
+--   begun, begins == a start is taken exactly for n from 2 to 16, with the judge of a start
 use Prim.Native.Nat.{ℕ, ◌≤◌, ◌<◌}
 use mathlib.Core.Path.{◌≡◌, refl, ap}
 use mathlib.Core.Bool.{Bool, true, false}

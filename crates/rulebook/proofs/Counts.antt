@@ -1,11 +1,11 @@
 -- The counts of the sixteen masters, and a search among them.
 --
---   list_at         == the entries of the list of f i, for i from 0 on
+--   list_at    == the entries of the list of f i, for i from 0 on
 --   list_length, list_same == its length; equal entries make equal lists
---   some_same       == a search asks only what f answers below k
---   some_none       == where none has f, the search finds none
---   none_below      == where the search finds none, none has f
---   some_limit      == G11's limit is above 0
+--   some_same  == a search asks only what f answers below k
+--   some_none  == where none has f, the search finds none
+--   none_below == where the search finds none, none has f
+--   some_limit == G11's limit is above 0
 use Prim.Native.Nat.{ℕ, zero, suc, ◌+◌, ◌<◌}
 use mathlib.Core.Path.{◌≡◌, refl, ◌∙◌, ap}
 use mathlib.Core.Bool.{Bool, false}

@@ -1,8 +1,8 @@
 -- What the judge keeps is a word about what was recorded, and what it charges is what is broken.
 --
---   kept_start      == before the first cycle
---   kept_step       == after one more cycle
---   exact           == a rule is charged exactly where it is broken
+--   kept_start == before the first cycle
+--   kept_step  == after one more cycle
+--   exact      == a rule is charged exactly where it is broken
 use Prim.Native.Nat.{ℕ, ◌%◌, ◌<◌}
 use mathlib.Core.Path.{◌≡◌, refl}
 use mathlib.Core.Bool.{Bool, true, false, ◌&&◌}

@@ -1,11 +1,11 @@
 -- The charges of a cycle as one number, and back.
 --
---   mask_below      == a number of k flags is below 2 ^ k
---   mask_again      == its digits are the flags
---   mask_bit        == its bit i is the flag i
---   named_flagged   == it names the rules whose flag is high
---   named_none      == 0 names none
---   named_few       == a number names no more rules than there are
+--   mask_below    == a number of k flags is below 2 ^ k
+--   mask_again    == its digits are the flags
+--   mask_bit      == its bit i is the flag i
+--   named_flagged == it names the rules whose flag is high
+--   named_none    == 0 names none
+--   named_few     == a number names no more rules than there are
 --   First m rs d z, named_first == a number that is not 0 names the rule z at its lowest digit that is 1, and then those of what is left above it
 use Prim.Native.Nat.{ℕ, zero, suc, ◌+◌, ◌*◌, ◌/◌, ◌%◌, ◌^◌, ◌≤◌, ◌<◌}
 use mathlib.Core.Path.{◌≡◌, refl, sym}

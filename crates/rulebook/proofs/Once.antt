@@ -1,11 +1,11 @@
 -- No rule is listed twice in a cycle: the report goes by a list in which the rules' places rise.
 --
---   place r          == the place of a rule in the order of the report
---   Rising k l       == the places in l rise, from k on
---   rising_rules     == they do in the list of rules
+--   place r         == the place of a rule in the order of the report
+--   Rising k l      == the places in l rise, from k on
+--   rising_rules    == they do in the list of rules
 --   those_rise, flagged_rise == and in what is left of a list that rises
---   rising_distinct  == in such a list no rule stands twice
---   run_distinct     == nor in the report of a cycle
+--   rising_distinct == in such a list no rule stands twice
+--   run_distinct    == nor in the report of a cycle
 use Prim.Native.Nat.{ℕ, zero, suc, ◌≤◌}
 use mathlib.Core.Path.{◌≡◌}
 use mathlib.Core.Logic.{◌⊎◌, inl, inr}

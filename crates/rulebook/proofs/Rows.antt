@@ -1,9 +1,9 @@
 -- Rows that restart: the length that the judge keeps is the row's, without the parts that were charged.
 --
---   longer_row      == one more cycle makes the kept length that of the longer row
---   completes_row   == the kept length reaches k where the row completes k
---   longer_below    == a kept length stays below k
---   longer_on       == a kept length that does not reach k grows, or starts again
+--   longer_row    == one more cycle makes the kept length that of the longer row
+--   completes_row == the kept length reaches k where the row completes k
+--   longer_below  == a kept length stays below k
+--   longer_on     == a kept length that does not reach k grows, or starts again
 use Prim.Native.Nat.{ℕ, ◌+◌, ◌%◌, ◌<◌}
 use mathlib.Core.Path.{◌≡◌, refl, sym, ◌∙◌, ap}
 use mathlib.Core.Bool.{Bool, true, false, ◌&&◌, cond}

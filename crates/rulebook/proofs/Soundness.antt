@@ -1,8 +1,8 @@
 -- A well-formed judge stays so.
 --
---   start_lost      == the lost counts of a start are 0
---   start_sound     == the judge of a start is well formed
---   step_sound      == and so is the judge after a valid cycle
+--   start_lost  == the lost counts of a start are 0
+--   start_sound == the judge of a start is well formed
+--   step_sound  == and so is the judge after a valid cycle
 use Prim.Native.Nat.{ℕ, ◌-◌, ◌^◌, ◌≤◌, ◌<◌}
 use mathlib.Core.Path.{◌≡◌, refl, ◌∙◌}
 use mathlib.Core.Bool.{Bool, true, false, ◌||◌, cond}

@@ -1,8 +1,8 @@
 -- The page's test of a well-formed judge, and the facts that it stands for, agree.
 --
---   good_is         == a check that is good is Good
---   facts_of        == what passes the test, with a count for each of sixteen masters, has the facts
---   test_of         == what has the facts passes the test
+--   good_is  == a check that is good is Good
+--   facts_of == what passes the test, with a count for each of sixteen masters, has the facts
+--   test_of  == what has the facts passes the test
 use Prim.Native.Nat.{ℕ, ◌≤◌, ◌<◌}
 use mathlib.Core.Path.{◌≡◌, refl, sym, ◌∙◌}
 use mathlib.Core.Bool.{Bool, true, false, not, ◌&&◌, ◌||◌, false≢true}

@@ -1,11 +1,11 @@
 -- A whole trace, cycle by cycle.
 --
---   charged_broken  == one cycle of it: the rules charged are those broken
---   places          == at each place the judge charges what is broken there; charges_length == at no other place
---   ends_at         == the judge that it ends with is a word about its history
---   run_sound       == a well-formed judge stays so
---   run_of          == a well-formed judge takes every trace of valid cycles that its count has room for
---   run_limits      == and no other
+--   charged_broken == one cycle of it: the rules charged are those broken
+--   places         == at each place the judge charges what is broken there; charges_length == at no other place
+--   ends_at        == the judge that it ends with is a word about its history
+--   run_sound      == a well-formed judge stays so
+--   run_of         == a well-formed judge takes every trace of valid cycles that its count has room for
+--   run_limits     == and no other
 use Prim.Native.Nat.{ℕ, zero, suc, ◌+◌, ◌≤◌, ◌<◌}
 use mathlib.Core.Path.{◌≡◌, refl, ◌∙◌, ap}
 use mathlib.Core.Bool.{Bool}

@@ -3,14 +3,14 @@
 -- clause of its sentence a neighbour that does not break it. Of the long rows of A1 one cycle is looked at. G12's neighbour has HTRANS NONSEQ in cycle 0,
 -- which is A9.
 --
---   says n w trace     == of this trace of n masters, w has the rules that are broken at each cycle
+--   says n w trace  == of this trace of n masters, w has the rules that are broken at each cycle
 --   says_at n t rs trace == the rules rs are broken at its cycle t
---   start              == cycle 0 as a reset shows it
---   breaks n rs l      == the trace of start and then l breaks the rules rs at its last cycle, and nothing before
---   keeps n l          == it breaks nothing
---   first rs c         == the trace of the cycle c alone breaks the rules rs
---   found c, said c    == what the rules say of a case, and what is said beside it
---   table              == found and said agree in every case (proofs/Cases.antt)
+--   start           == cycle 0 as a reset shows it
+--   breaks n rs l   == the trace of start and then l breaks the rules rs at its last cycle, and nothing before
+--   keeps n l       == it breaks nothing
+--   first rs c      == the trace of the cycle c alone breaks the rules rs
+--   found c, said c == what the rules say of a case, and what is said beside it
+--   table           == found and said agree in every case (proofs/Cases.antt)
 use Rattle.std.specs.Prelude.{ℕ, List, [], ◌∷◌, length}
 use Rattle.rules.specs.declared.Cycle.{Cycle}
 use Rattle.rulebook.specs.declared.Rule.{Rule}

@@ -1,8 +1,8 @@
 -- Cases of A1 to A9, each beside its sentence. p is the cycle before the last, t the last. Rows of A1 and A2 of any length have specs/Rows.antt.
 --
 --   row_from c l == a trace whose cycle 1 is a handover to a master with HLOCK, whose cycle 2 is c, and l follows
---   counts      == a cycle that counts for A1
---   cases_of_a    == the cases
+--   counts       == a cycle that counts for A1
+--   cases_of_a   == the cases
 use Rattle.std.specs.Prelude.{List, [], ◌∷◌, ◌++◌, replicate}
 use Rattle.rules.specs.declared.Cycle.{Cycle}
 use Rattle.rulebook.specs.declared.Rule.TheVariants.{A1, A2, A3, A4, A5, A6, A7, A8, A9}

@@ -1,11 +1,11 @@
 -- What the judge charges at a cycle, and what it keeps for the next.
 --
---   longer k f r       == a run length r after one more cycle: 0 where f fails, and 0 again where it reaches k
---   opening_watch o        == the watch that an opening starts
---   later_watch w c        == the watch after a later cycle that is no handover
+--   longer k f r  == a run length r after one more cycle: 0 where f fails, and 0 again where it reaches k
+--   opening_watch o == the watch that an opening starts
+--   later_watch w c == the watch after a later cycle that is no handover
 --   opened_after, watch_after, lost_after == the judge's fields after a cycle
---   next_judge j c         == the judge after the cycle c
---   charges j c r      == the judge j charges the rule r at the cycle c
+--   next_judge j c  == the judge after the cycle c
+--   charges j c r == the judge j charges the rule r at the cycle c
 use Rattle.std.specs.Prelude.{ℕ, zero, suc, ◌+◌, ◌-◌, Bool, true, false, not, ◌&&◌, ◌||◌, cond, List, [], ◌∷◌, eqb, ltb, get_or}
 use Rattle.rules.specs.declared.Burst.{Burst}
 use Rattle.rules.specs.declared.Burst.TheVariants as burst

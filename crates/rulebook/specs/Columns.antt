@@ -1,15 +1,15 @@
 -- What a recorded cycle says, column by column. The judge uses the recorded columns only.
 --
 --   is_ready c, is_idle c, is_nonseq c, is_seq c == HREADY high; HTRANS IDLE, NONSEQ, SEQ
---   is_incr c           == HBURST is INCR
---   beats c            == the beats of the fixed burst that HBURST names, 0 where it names none
---   is_fixed c          == it names one
+--   is_incr c        == HBURST is INCR
+--   beats c          == the beats of the fixed burst that HBURST names, 0 where it names none
+--   is_fixed c       == it names one
 --   mastlocked c, decided c, granted c == HMASTLOCK, DECIDE, GRANTED high
---   requested c        == some HBUSREQ is high
+--   requested c      == some HBUSREQ is high
 --   request i c, lock i c, grant i c == HBUSREQ, HLOCK, HGRANT of master i
---   owners_request c    == HBUSREQ of HMASTER
---   handover c         == GRANTED and HREADY both high
---   some_master f       == some master has f
+--   owners_request c == HBUSREQ of HMASTER
+--   handover c       == GRANTED and HREADY both high
+--   some_master f    == some master has f
 use Rattle.std.specs.Prelude.{ℕ, zero, suc, Bool, true, false, ◌&&◌, ◌||◌, eqb, ltb}
 use Rattle.rules.specs.declared.Burst.{Burst}
 use Rattle.rules.specs.declared.Burst.TheVariants as burst

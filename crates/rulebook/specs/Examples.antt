@@ -3,7 +3,7 @@
 --
 --   line ..            == a trace line, its eleven columns as the page writes them
 --   printed g          == the page's printed run of three masters, with HGRANT g in cycle 8 (0004 is printed)
---   up_to_opening b d    == the start of a run of two masters: master 1 locks, is granted, and opens a burst of code b in cycle 3
+--   up_to_opening b d  == the start of a run of two masters: master 1 locks, is granted, and opens a burst of code b in cycle 3
 --   cut, released, second, third == such runs with the handover that ends the access
 --   clean k, last k rs == no breach in k cycles; and then the rules rs are broken in the last
 --   looks, wanted      == what the rules say of the runs, and what the page says

@@ -1,8 +1,8 @@
 -- What the judge keeps is a word about what was recorded: its state after a history, as a function of that history.
 --
 --   access_watch o          == the watch in an access at its opening
---   kept_of n h         == the judge after the history h
---   Sound j            == a well-formed judge, as facts
+--   kept_of n h == the judge after the history h
+--   Sound j     == a well-formed judge, as facts
 use Rattle.std.specs.Prelude.{ℕ, ◌-◌, ◌%◌, ◌≤◌, ◌<◌, ◌≡◌, Bool, true, false, cond, List, [], ◌∷◌, length, get_or}
 use Rattle.rules.specs.declared.Check.TheVariants.{Good}
 use Rattle.rules.specs.declared.Burst.{Burst}

@@ -1,8 +1,8 @@
 -- The charges of a cycle as one number: its bits are those of the rules, in the order of the report.
 --
---   mask_of l           == the number whose binary digits are the flags l, lowest first
---   flags_in k m        == the k lowest binary digits of the number m as flags, lowest first
---   named_by m l        == of the rules l, those whose digit is 1 in the number m, the first rule's digit being the lowest
+--   mask_of l    == the number whose binary digits are the flags l, lowest first
+--   flags_in k m == the k lowest binary digits of the number m as flags, lowest first
+--   named_by m l == of the rules l, those whose digit is 1 in the number m, the first rule's digit being the lowest
 use Rattle.std.specs.Prelude.{ℕ, zero, suc, ◌+◌, ◌*◌, ◌/◌, ◌%◌, Bool, cond, List, [], ◌∷◌, eqb}
 use Rattle.rules.specs.Step.{flag_of}
 use Rattle.rulebook.specs.declared.Rule.{Rule}

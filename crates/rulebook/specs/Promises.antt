@@ -1,11 +1,11 @@
 -- What is promised of the judge, each statement beside the sentence of the page that it states. Each is proved in
--- proofs/Promises.antt by a law of its name, in lower case with hyphens.
+-- proofs/Promises.antt by a law of its name, in lower case with underscores.
 --
 --   each k f           == the list f 0, f 1, .., of k entries
 --   total k f          == the sum f 0 + f 1 + .., of k terms
 --   broken_report n trace == the rules that are broken at each cycle of the trace, cycle 0 first
 --   broken_count n trace  == how many they are in all
---   whole_of trace      == the history of the whole trace
+--   whole_of trace     == the history of the whole trace
 --   ValidTrace n trace == no cycle of the trace meets one of the refusals 4, 5, 6 and 7
 --   Distinct l         == no rule stands twice in the list l
 --   Accepted j c       == nothing is refused, and the step is taken

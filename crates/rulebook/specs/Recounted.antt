@@ -1,12 +1,12 @@
 -- The judge's count only counts: "At most 1,000,000 cycles a run" limits it, and beside that it says one thing alone, whether this is cycle 0,
 -- which has rules of its own (A9 and G12) and no previous cycle to compare. So a judge that has taken a cycle goes on alike with any count from 1
 -- up to the limit, and not with 0: the rows say what becomes of that. Each statement is proved in proofs/Recounted.antt by a law of its name, in
--- lower case with hyphens.
+-- lower case with underscores.
 --
---   with_count k j      == the judge j, with the count k
---   DifferInCount j k  == the judges j and k differ in the count alone
---   counted k j c      == what a step of j with the count k answers: its number, and the rules that it charges as a mask
---   rows, wanted       == some steps with the count 1 and with 0, and what the page says of them
+--   with_count k j    == the judge j, with the count k
+--   DifferInCount j k == the judges j and k differ in the count alone
+--   counted k j c     == what a step of j with the count k answers: its number, and the rules that it charges as a mask
+--   rows, wanted      == some steps with the count 1 and with 0, and what the page says of them
 use Rattle.std.specs.Prelude.{ℕ, ◌+◌, ◌^◌, ◌≤◌, ◌<◌, ◌≡◌, false, List, [], ◌∷◌, map, replicate}
 use Rattle.rules.specs.declared.Cycle.{Cycle}
 use Rattle.rules.specs.Codes.{fewest_masters, most_masters, most_cycles}

@@ -2,17 +2,17 @@
 -- each entry of `asked` is what is `wanted` of it.
 -- n = 3, count 1, the previous cycle and this one as a reset shows it, row lengths and lost counts 0, not opened, no watch, unless said.
 --
---   Asked              == a step or a start, and the number that the page gives it
---   judging n k p ..   == a judge: n, the count, the previous cycle, both row lengths, whether the access has opened, the watch, the lost counts
---   unused n           == the judge of n masters before the first cycle
---   well, after c      == the judge unless said; the same after the cycle c
---   watching opened w  == the same with this watch
+--   Asked             == a step or a start, and the number that the page gives it
+--   judging n k p ..  == a judge: n, the count, the previous cycle, both row lengths, whether the access has opened, the watch, the lost counts
+--   unused n          == the judge of n masters before the first cycle
+--   well, after c     == the judge unless said; the same after the cycle c
+--   watching opened w == the same with this watch
 --   lost_by i k, losing n i k == lost counts of which master i has k; a judge of n masters with them
---   previously c       == a judge with count 0 whose previous cycle is c
---   bad, full          == a judge that is not well formed, and one at the end of a run
---   heard a            == what the definitions answer: the number, the judge that comes with it, and how many rules are charged
---   wanted a           == what the page says: the number, the judge as it came, and no rule
---   table              == they agree (proofs/Refused.antt)
+--   previously c      == a judge with count 0 whose previous cycle is c
+--   bad, full         == a judge that is not well formed, and one at the end of a run
+--   heard a           == what the definitions answer: the number, the judge that comes with it, and how many rules are charged
+--   wanted a          == what the page says: the number, the judge as it came, and no rule
+--   table             == they agree (proofs/Refused.antt)
 use Rattle.std.specs.Prelude.{ℕ, ◌-◌, Bool, true, false, List, [], ◌∷◌, ◌++◌, length, replicate}
 use Rattle.rules.specs.declared.Cycle.{Cycle}
 use Rattle.rulebook.specs.declared.Watch.{Watch}

@@ -1,4 +1,4 @@
--- The finite readings of A1 and A2, over rows of any length. Each is proved in proofs/Readings.antt by a law of its name, in lower case with hyphens.
+-- The finite readings of A1 and A2, over rows of any length. Each is proved in proofs/Readings.antt by a law of its name, in lower case with underscores.
 --
 --   A1InARow, A2InARow == of a row of cycles that all count, after a history whose newest cycle does not, the rule is broken at the row's
 --                         last cycle exactly if the row has as many cycles as the page says, or twice as many, and so on

@@ -1,11 +1,11 @@
 -- The rules A1 to A9 and G1 to G12, in the page's order and words. No word of the judge's own state is used here.
 --
---   is_watched c        == an opening from which G2 or G3 watches
---   lost_in_a_row i h     == the decisions that master i has lost in a row (G11)
---   broken n r h       == the rule r is broken at the newest cycle of the history h
+--   is_watched c      == an opening from which G2 or G3 watches
+--   lost_in_a_row i h == the decisions that master i has lost in a row (G11)
+--   broken n r h      == the rule r is broken at the newest cycle of the history h
 --   broken_at n r trace t == it is broken at cycle t of the trace
---   rules              == the rules in the order of the report
---   those f l          == of a list of rules, those that have f, in their order
+--   rules             == the rules in the order of the report
+--   those f l         == of a list of rules, those that have f, in their order
 --   broken_rules n trace t == the rules that are broken at cycle t, in the order of the report
 use Rattle.std.specs.Prelude.{ℕ, ◌+◌, ◌-◌, Bool, false, not, ◌&&◌, ◌||◌, cond, List, [], ◌∷◌, eqb, ltb}
 use Rattle.std.specs.Bool.{beq}

@@ -1,10 +1,10 @@
 -- The judge's state: how it starts, and which states are well formed.
 --
---   start_of n          == the answer of a start
---   watch_ok o w        == the watch w stands only in an opened access, with 1 to 3 ready cycles left for G3
---   counts_ok n l       == the lost counts are below the limit, and 0 for absent masters
---   starts_out j        == all but n is zero or none
---   well_formed j       == the judge j is well formed
+--   start_of n    == the answer of a start
+--   watch_ok o w  == the watch w stands only in an opened access, with 1 to 3 ready cycles left for G3
+--   counts_ok n l == the lost counts are below the limit, and 0 for absent masters
+--   starts_out j  == all but n is zero or none
+--   well_formed j == the judge j is well formed
 use Rattle.std.specs.Prelude.{ℕ, ◌-◌, Bool, true, false, not, ◌&&◌, ◌||◌, cond, List, eqb, ltb, leb, get_or, replicate}
 use Rattle.rules.specs.declared.Refusal.TheVariants as refusal
 use Rattle.rules.specs.declared.Check.{Check}

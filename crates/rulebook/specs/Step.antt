@@ -1,12 +1,12 @@
 -- One step of the judge, with its refusals, and a whole trace judged.
 --
---   judge_of j c        == the answer of a step: the refusals 10, 8, 4, 5, 6, 7, or the charges and the judge after the cycle
+--   judge_of j c     == the answer of a step: the refusals 10, 8, 4, 5, 6, 7, or the charges and the judge after the cycle
 --   refused_of j r, taken_of j c == the answer of a step that refuses, and of one that takes the cycle
---   number_of v         == the number that a verdict answers: 0, or that of its refusal
---   charged_rules a     == the rules that an answer charges, in the order of the report
---   Judged n trace j   == the judge for n masters takes the whole trace, and is then j
---   report run         == the rules charged at each cycle of such a trace
---   breaches l         == how many they are: the second number of the end line
+--   number_of v      == the number that a verdict answers: 0, or that of its refusal
+--   charged_rules a  == the rules that an answer charges, in the order of the report
+--   Judged n trace j == the judge for n masters takes the whole trace, and is then j
+--   report run       == the rules charged at each cycle of such a trace
+--   breaches l       == how many they are: the second number of the end line
 use Rattle.std.specs.Prelude.{ℕ, ◌+◌, ◌≡◌, Bool, false, not, cond, List, [], ◌∷◌, map, leb, length}
 use Rattle.rules.specs.declared.Refusal.{Refusal}
 use Rattle.rules.specs.declared.Refusal.TheVariants as refusal

@@ -1,15 +1,15 @@
 -- What the rules say of a trace. A history is what was recorded up to some cycle, the newest first: in t ∷ (p ∷ h) the newest
 -- cycle is t, p is the previous one, and h came before.
 --
---   comparing f h      == f of p and t, a rule that compares them; not at cycle 0
---   always f h         == f of t, a rule that also holds at cycle 0
---   at_first f h        == f of t where t is cycle 0
---   in_a_row f h         == how many of the newest cycles have f, in a row
---   completes k r      == a row of length r has just reached k, or once more k: the run restarts at 0 with each charge
---   access h           == the cycles of the access that runs, so far: those since the last handover
---   Opened, opening a  == an access at its opening: the opening itself, and the cycles later than it
---   so_far trace t      == the history up to and with cycle t of a trace that is recorded oldest cycle first; none beyond its end
---   newest_first h l    == the history of the whole trace l that follows the history h
+--   comparing f h     == f of p and t, a rule that compares them; not at cycle 0
+--   always f h        == f of t, a rule that also holds at cycle 0
+--   at_first f h      == f of t where t is cycle 0
+--   in_a_row f h      == how many of the newest cycles have f, in a row
+--   completes k r     == a row of length r has just reached k, or once more k: the run restarts at 0 with each charge
+--   access h          == the cycles of the access that runs, so far: those since the last handover
+--   Opened, opening a == an access at its opening: the opening itself, and the cycles later than it
+--   so_far trace t    == the history up to and with cycle t of a trace that is recorded oldest cycle first; none beyond its end
+--   newest_first h l  == the history of the whole trace l that follows the history h
 use Rattle.std.specs.Prelude.{ℕ, zero, suc, ◌+◌, ◌%◌, Bool, true, false, ◌&&◌, cond, List, [], ◌∷◌, eqb, ltb}
 use Rattle.rules.specs.declared.Cycle.{Cycle}
 use Rattle.rulebook.specs.Columns.{is_ready, is_nonseq, handover}

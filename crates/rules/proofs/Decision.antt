@@ -1,10 +1,10 @@
 -- What a decision does, and what a cycle without one leaves.
 --
 --   decides_low, decides_settled == what DECIDE says of the state
---   chosen_kept   == without a decision the grant stays
---   chosen_zero   == a decision with no request grants master 0
---   chosen_below  == the grant that follows is a master
---   chosen_won    == a decision with a request grants the winner
+--   chosen_kept  == without a decision the grant stays
+--   chosen_zero  == a decision with no request grants master 0
+--   chosen_below == the grant that follows is a master
+--   chosen_won   == a decision with a request grants the winner
 use Prim.Native.Nat.{ℕ, ◌<◌}
 use mathlib.Core.Path.{◌≡◌, refl}
 use mathlib.Core.Bool.{Bool, true, false, not}

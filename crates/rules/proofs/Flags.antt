@@ -1,9 +1,9 @@
 -- Flags as numbers, and numbers joined by `|`.
 --
---   flag_most       == a flag's number is at most 1
---   flag_again      == a flag is that of its number
---   or_least        == a | b is no less than either
---   or_none_lem         == a | b is 0 only where both are
+--   flag_most   == a flag's number is at most 1
+--   flag_again  == a flag is that of its number
+--   or_least    == a | b is no less than either
+--   or_none_lem == a | b is 0 only where both are
 use Prim.Native.Nat.{ℕ, ◌≤◌}
 use mathlib.Core.Path.{◌≡◌, refl}
 use mathlib.Core.Bool.{Bool, true, false}

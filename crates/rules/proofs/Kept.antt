@@ -1,7 +1,7 @@
 -- A step from a state leads to a well-formed state, and a reset begins with one.
 --
---   built_burst     == the beats of a fixed burst that is built: 2 to the longest
---   kept            == the state after a step is well formed
+--   built_burst == the beats of a fixed burst that is built: 2 to the longest
+--   kept        == the state after a step is well formed
 use Prim.Native.Nat.{ℕ, ◌-◌, ◌≤◌, ◌<◌}
 use mathlib.Core.Path.{◌≡◌, refl, sym, ◌∙◌}
 use mathlib.Core.Bool.{Bool, true, false, not, ◌&&◌, ◌||◌, cond, true≢false, false≢true}

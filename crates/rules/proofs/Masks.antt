@@ -1,11 +1,11 @@
 -- Facts of masks, once, over the number of masters.
 --
---   high_of_zero    == the mask 0 has no bit
---   high_single     == the mask of g has the bit g and no other
---   high_below      == a mask below 2 ^ n has no bit from n on
---   some_is_high    == a mask below 2 ^ n that is not 0 has a bit below n
---   absent_is_high  == a mask from 2 ^ n on has a bit from n on
---   high_some       == where a bit is high, some is
+--   high_of_zero   == the mask 0 has no bit
+--   high_single    == the mask of g has the bit g and no other
+--   high_below     == a mask below 2 ^ n has no bit from n on
+--   some_is_high   == a mask below 2 ^ n that is not 0 has a bit below n
+--   absent_is_high == a mask from 2 ^ n on has a bit from n on
+--   high_some      == where a bit is high, some is
 use Prim.Native.Nat.{ℕ, zero, suc, ◌+◌, ◌*◌, ◌/◌, ◌%◌, ◌^◌, ◌≤◌, ◌<◌}
 use mathlib.Core.Path.{◌≡◌, refl, sym, ◌∙◌, ap}
 use mathlib.Core.Bool.{true, false, false≢true}

@@ -1,10 +1,10 @@
 -- The masters stand in a ring: next n walks round it, and gap n j i is how far it is from j to i.
 --
---   next_below    == the next master is a master
---   gap_below     == no master is further than n - 1
---   gap_next      == a step round brings every other master one nearer
---   gap_through   == what lies on the way splits the distance
---   gap_to_last   == the last met on the walk from the one after g is g itself
+--   next_below  == the next master is a master
+--   gap_below   == no master is further than n - 1
+--   gap_next    == a step round brings every other master one nearer
+--   gap_through == what lies on the way splits the distance
+--   gap_to_last == the last met on the walk from the one after g is g itself
 use Prim.Native.Nat.{ℕ, ◌+◌, ◌-◌, ◌≤◌, ◌<◌}
 use mathlib.Core.Path.{◌≡◌}
 use mathlib.Core.Bool.{cond}

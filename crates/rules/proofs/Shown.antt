@@ -1,7 +1,7 @@
 -- A cycle that the arbiter shows is valid for n, so no writer and no judge refuses it.
 --
---   outputs_fit    == no column of the outputs is too large
---   valid_shown    == 4, 5, 6 and 7 do not apply to the cycle
+--   outputs_fit == no column of the outputs is too large
+--   valid_shown == 4, 5, 6 and 7 do not apply to the cycle
 use Prim.Native.Nat.{◌^◌, ◌≤◌, ◌<◌}
 use mathlib.Core.Path.{◌≡◌}
 use mathlib.Core.Bool.{Bool, false}

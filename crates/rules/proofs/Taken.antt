@@ -1,7 +1,7 @@
 -- What a step that was taken shows, and what follows it: the one inversion from which every law of a step is read.
 --
---   Taken s x s' o   == the facts of a step from s by x to s' that shows o
---   taken            == a step that answers Next has them
+--   Taken s x s' o == the facts of a step from s by x to s' that shows o
+--   taken          == a step that answers Next has them
 --   next_n, next_g, next_m, next_lock, next_granted, next_phase, next_count == the fields of s'
 use Prim.Native.Nat.{ℕ, ◌+◌, ◌<◌}
 use mathlib.Core.Path.{◌≡◌, refl, ap}

@@ -1,10 +1,10 @@
 -- Well-formed states: the test and the facts that it stands for agree, and reset gives such a state.
 --
---   masters_ok_lem    == n from 2 to 16 passes the test of n
---   facts_of      == what passes the test has the facts
---   test_of       == what has the facts passes the test
---   reset_is      == a reset that is not refused gives the reset state, for n from 2 to 16
---   reset_sound   == the reset state is well formed
+--   masters_ok_lem == n from 2 to 16 passes the test of n
+--   facts_of       == what passes the test has the facts
+--   test_of        == what has the facts passes the test
+--   reset_is       == a reset that is not refused gives the reset state, for n from 2 to 16
+--   reset_sound    == the reset state is well formed
 use Prim.Native.Nat.{ℕ, ◌≤◌}
 use mathlib.Core.Path.{◌≡◌, refl, sym}
 use mathlib.Core.Bool.{Bool, true, false, ◌||◌, false≢true}

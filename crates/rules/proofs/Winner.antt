@@ -1,10 +1,10 @@
 -- The walk's laws.
 --
 --   walk_none, walk_hit, walk_pass == the walk by its cases, for the loop that walks
---   winner_below  == the winner is a master
---   winner_high   == the winner requests
---   winner_won    == where i requests there is a winner, and a winner other than i brings i's turn nearer
---   turns n g i   == how many decisions i can still lose with the grant at g
+--   winner_below == the winner is a master
+--   winner_high  == the winner requests
+--   winner_won   == where i requests there is a winner, and a winner other than i brings i's turn nearer
+--   turns n g i  == how many decisions i can still lose with the grant at g
 use Prim.Native.Nat.{ℕ, zero, suc, ◌+◌, ◌-◌, ◌≤◌, ◌<◌}
 use mathlib.Core.Path.{◌≡◌, refl, ◌∙◌, subst}
 use mathlib.Core.Bool.{Bool, true, false}

@@ -1,12 +1,12 @@
 -- The cases P1 to P12 of document 01 as one table: `look` at each case of `cases` gives the row of `wanted` beside it.
 -- n = 3, HBUSREQ 0, ready, IDLE, SINGLE, locks low, Done, GRANTED low unless said. The count is k, which the page leaves open.
 --
---   three ..   == a state of three masters: g, m, HMASTLOCK, GRANTED, the phase and the count
---   lines ..   == inputs: HBUSREQ, HLOCK, HREADY, HTRANS, HBURST
---   look c     == what is seen of a case: DECIDE and the state after a step, or the answer of a reset
---   cases k    == the cases, those of a step at the count k
---   wanted k   == what the page says of each
---   table      == the two agree (proofs/Cases.antt)
+--   three .. == a state of three masters: g, m, HMASTLOCK, GRANTED, the phase and the count
+--   lines .. == inputs: HBUSREQ, HLOCK, HREADY, HTRANS, HBURST
+--   look c   == what is seen of a case: DECIDE and the state after a step, or the answer of a reset
+--   cases k  == the cases, those of a step at the count k
+--   wanted k == what the page says of each
+--   table    == the two agree (proofs/Cases.antt)
 use Rattle.std.specs.Prelude.{ℕ, ◌+◌, Bool, true, false, List, [], ◌∷◌}
 use Rattle.rules.specs.declared.Phase.{Phase}
 use Rattle.rules.specs.declared.Phase.TheVariants.{Fresh, Fixed, Done}

@@ -1,10 +1,10 @@
 -- The codes of HTRANS and HBURST, and the limits of a run.
 --
 --   ready x, idle x, nonseq x, seq x == what HREADY and HTRANS say in a cycle with inputs x
---   burst_of c       == the sort of the burst code c
---   no_code b        == b is no code at all (refusal 4)
---   not_built b      == b is a code that is not built (refusal 5)
---   longest_burst    == the most beats that a fixed burst has
+--   burst_of c    == the sort of the burst code c
+--   no_code b     == b is no code at all (refusal 4)
+--   not_built b   == b is a code that is not built (refusal 5)
+--   longest_burst == the most beats that a fixed burst has
 --   fewest_masters, most_masters, most_cycles == the limits of n and of the count
 use Rattle.std.specs.Prelude.{ℕ, Bool, true, false, cond, eqb, leb}
 use Rattle.rules.specs.declared.Burst.{Burst}

@@ -2,11 +2,11 @@
 -- `found` of each entry of `cycles` is what is `said` of it.
 -- n = 3, g = m = 1, locks and GRANTED low unless said. The count is k, which the page leaves open.
 --
---   told s x o t   == in the state s with the inputs x the arbiter shows o, and t is the state after
---   drives ..      == the six columns that the arbiter drives
+--   told s x o t == in the state s with the inputs x the arbiter shows o, and t is the state after
+--   drives ..    == the six columns that the arbiter drives
 --   found c, said c == what the definitions give of such a cycle, and what is said here
---   cycles k       == the cycles, at the count k
---   table          == found and said agree (proofs/Cycles.antt)
+--   cycles k     == the cycles, at the count k
+--   table        == found and said agree (proofs/Cycles.antt)
 use Rattle.std.specs.Prelude.{ℕ, ◌+◌, true, false, List, [], ◌∷◌}
 use Rattle.rules.specs.declared.Phase.TheVariants.{Fresh, Fixed, Open, Done}
 use Rattle.rules.specs.declared.State.{State}

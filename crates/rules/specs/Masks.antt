@@ -1,8 +1,8 @@
 -- Masks of masters: four hex digits in a line, a number in a record; master i is bit i.
 --
---   high m i        == the bit of master i is 1 in the mask m
+--   high m i         == the bit of master i is 1 in the mask m
 --   some_high m      == some master's bit is 1
---   single i        == the mask with the single bit i
+--   single i         == the mask with the single bit i
 --   names_absent n m == m names a master not below n
 use Rattle.std.specs.Prelude.{ℕ, ◌/◌, ◌%◌, ◌^◌, Bool, not, eqb, leb}
 

@@ -1,14 +1,14 @@
 -- The phase after a cycle, and DECIDE.
 --
---   seen s x            == what a cycle with inputs x shows of the owner of the bus
---   handover s x        == GRANTED and HREADY are both high
---   protected b locked  == the burst b is of a protected kind, where locked says whether HMASTLOCK is high
+--   seen s x             == what a cycle with inputs x shows of the owner of the bus
+--   handover s x         == GRANTED and HREADY are both high
+--   protected b locked   == the burst b is of a protected kind, where locked says whether HMASTLOCK is high
 --   phase_opened b locked == the phase that the first beat of a burst opens
 --   phase_low p locked v == the phase after a cycle with GRANTED low
 --   phase_after s v      == the phase after a cycle
 --   settled p, is_fresh p == the phase is neither Fixed nor Open; it is Fresh
 --   opens_later s v      == the first beat of a protected burst is not yet taken
---   decides s v         == DECIDE is high
+--   decides s v          == DECIDE is high
 use Rattle.std.specs.Prelude.{◌-◌, Bool, true, false, not, ◌&&◌, cond, leb}
 use Rattle.rules.specs.declared.Burst.{Burst}
 use Rattle.rules.specs.declared.Burst.TheVariants as burst

@@ -1,9 +1,9 @@
 -- What is promised of one step of the arbiter, by the numbers that the page gives, each statement beside its sentence. Each is proved in
--- proofs/Promises.antt by a law of its name, in lower case with hyphens.
+-- proofs/Promises.antt by a law of its name, in lower case with underscores.
 --
---   Accepted s x       == nothing is refused, and the step is the one of the page
---   NumberOf s x       == the number that the step answers, test by test
---   ProtectedKind s x  == the burst is of a protected kind, by its code
+--   Accepted s x      == nothing is refused, and the step is the one of the page
+--   NumberOf s x      == the number that the step answers, test by test
+--   ProtectedKind s x == the burst is of a protected kind, by its code
 use Rattle.std.specs.Prelude.{◌≤◌, ◌<◌, ◌≡◌, ◌⊎◌, Bool, true, false}
 use Rattle.rules.specs.declared.Check.TheVariants.{Good}
 use Rattle.rules.specs.declared.Found.TheVariants.{At, Nothing}

@@ -1,10 +1,10 @@
 -- The arbiter's state: what reset gives, and which states are well formed.
 --
---   masters_ok n     == n is a number of masters that is served
+--   masters_ok n  == n is a number of masters that is served
 --   reset_state n, reset_of n == the state after a reset, and the answer of reset
 --   phase_ok p granted locked == the phase fits GRANTED and HMASTLOCK
---   well_formed s    == s is well formed
---   WellFormed s    == the same, as facts
+--   well_formed s == s is well formed
+--   WellFormed s  == the same, as facts
 use Rattle.std.specs.Prelude.{ℕ, ◌-◌, ◌≤◌, ◌<◌, ◌≡◌, Bool, true, false, not, ◌&&◌, ◌||◌, cond, eqb, ltb, leb}
 use Rattle.rules.specs.declared.Refusal.TheVariants.{Masters}
 use Rattle.rules.specs.declared.Phase.{Phase}

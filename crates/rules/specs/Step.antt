@@ -1,14 +1,14 @@
 -- One cycle of the arbiter: what it shows, what follows, and the order of refusals.
 --
---   chosen s x d       == the grant after a cycle in which DECIDE is d
+--   chosen s x d     == the grant after a cycle in which DECIDE is d
 --   granted_after, owner_after, lock_after == GRANTED, HMASTER and HMASTLOCK after a cycle
---   moved s x d w      == the state after a cycle in which DECIDE is d and w is the grant that follows
---   flag_of b           == a flag as its column has it
---   shown s v d        == what the arbiter drives in a cycle in which DECIDE is d
---   answered f d s x   == the answer where the choice found f: 11 where it found nobody
---   accepted s x       == the answer to inputs that are valid
---   checked k s x      == the answer by what the tests 4, 5 and 6 found
---   step_of s x         == the answer of a step
+--   moved s x d w    == the state after a cycle in which DECIDE is d and w is the grant that follows
+--   flag_of b        == a flag as its column has it
+--   shown s v d      == what the arbiter drives in a cycle in which DECIDE is d
+--   answered f d s x == the answer where the choice found f: 11 where it found nobody
+--   accepted s x     == the answer to inputs that are valid
+--   checked k s x    == the answer by what the tests 4, 5 and 6 found
+--   step_of s x      == the answer of a step
 use Rattle.std.specs.Prelude.{ℕ, ◌+◌, Bool, true, false, not, ◌||◌, cond, eqb, leb}
 use Rattle.rules.specs.declared.Refusal.TheVariants as refusal
 use Rattle.rules.specs.declared.Check.{Check}

@@ -3,7 +3,7 @@
 --
 --   inputs_too_large x, outputs_too_large o == test 4: a value above its limit, or no code
 --   inputs_not_built x == test 5: a code that is not built
---   inputs_absent n x, outputs_absent n o == test 6: a mask names an absent master
+--   inputs_absent n x, outputs_absent n o   == test 6: a mask names an absent master
 --   owner_absent n o == test 7: HMASTER is absent
 --   inputs_check n x == the first of 4, 5, 6 that applies to a stimulus
 --   cycle_check n c  == the first of 4, 5, 6, 7 that applies to a recorded cycle

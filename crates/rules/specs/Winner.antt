@@ -1,8 +1,8 @@
 -- The first requester met walking g+1, g+2, .. around and ending at g itself.
 --
---   next n i        == the master after i, with 0 after n - 1
---   walk n m k i    == the first of k masters, from i on, whose bit is 1 in the mask m
---   winner n g m    == the first of all n masters from the one after g on
+--   next n i     == the master after i, with 0 after n - 1
+--   walk n m k i == the first of k masters, from i on, whose bit is 1 in the mask m
+--   winner n g m == the first of all n masters from the one after g on
 use Rattle.std.specs.Prelude.{ℕ, zero, suc, ◌+◌, cond, ltb}
 use Rattle.rules.specs.declared.Found.{Found}
 use Rattle.rules.specs.declared.Found.TheVariants.{At, Nothing}

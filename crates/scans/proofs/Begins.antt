@@ -1,9 +1,9 @@
 -- What it is that a text begins with another: it is as long, and its bytes are the same.
 --
---   too_short       == a text that is shorter does not
---   same_bytes      == one that is as long does exactly where the bytes are the same
---   rest            == a slice from p on, as a call is lent it, is all that follows
---   nothing_there   == beyond the end no word stands
+--   too_short     == a text that is shorter does not
+--   same_bytes    == one that is as long does exactly where the bytes are the same
+--   rest          == a slice from p on, as a call is lent it, is all that follows
+--   nothing_there == beyond the end no word stands
 use Prim.Native.Nat.{ℕ, zero, suc, ◌-◌, ◌≤◌, ◌<◌}
 use mathlib.Core.Path.{◌≡◌, refl, sym, ap, ◌∙◌}
 use mathlib.Core.Bool.{false, ◌&&◌, and-true, and-false, and_assoc}

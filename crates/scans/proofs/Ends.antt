@@ -1,11 +1,11 @@
 -- Where a step ends, byte by byte.
 --
---   here            == the byte at a position inside a text, and what follows it
---   first_there     == the first byte of what follows a position
---   Ending s p i k  == the step at p has the bytes up to i, and then at most k more
+--   here           == the byte at a position inside a text, and what follows it
+--   first_there    == the first byte of what follows a position
+--   Ending s p i k == the step at p has the bytes up to i, and then at most k more
 --   ending_start, ending_on == such a position at the start, and one further
 --   ended_at, ended_short, ended_whole == the three ends
---   step_taken      == a step is the bytes up to its end
+--   step_taken     == a step is the bytes up to its end
 use Prim.Native.Nat.{ℕ, zero, suc, ◌+◌, ◌-◌, ◌≤◌, ◌<◌}
 use mathlib.Core.Path.{◌≡◌, refl, sym, ap, ◌∙◌}
 use mathlib.Core.Bool.{Bool, true, false, ◌&&◌, cond}

@@ -1,7 +1,7 @@
 -- The header of a dump, from the tests of its bytes.
 --
 --   closing_some, opening_short == how long the two texts are, as far as the calls ask
---   one_digit_lem, two_digits, no_number == the three ends after the opening
+--   one_digit_lem, two_digits_lem, no_number == the three ends after the opening
 --   opened, not_opened == the two ends at the opening
 use Prim.Native.Nat.{ℕ, ◌+◌, ◌-◌, ◌*◌, ◌≤◌, ◌<◌}
 use mathlib.Core.Path.{◌≡◌}

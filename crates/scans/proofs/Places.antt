@@ -1,9 +1,9 @@
 -- A line of a variable, in its place.
 --
---   not_placed      == a line of another size is none
+--   not_placed    == a line of another size is none
 --   long_enough, not_empty == a line of the right size has a character and a code at least
---   placed_by       == one of the right size is, by its bytes
---   placed_inside   == a line in its place ends inside the text
+--   placed_by     == one of the right size is, by its bytes
+--   placed_inside == a line in its place ends inside the text
 use Prim.Native.Nat.{ℕ, ◌+◌, ◌-◌, ◌≤◌}
 use mathlib.Core.Path.{◌≡◌, refl, sym, ◌∙◌}
 use mathlib.Core.Bool.{Bool, true, false, ◌&&◌, ◌||◌, cond, false≢true}

@@ -1,7 +1,7 @@
 -- The line of a time, as it is laid out to be compared.
 --
---   time_size       == the bytes of that line
---   laid_inside     == a buffer that begins with `#` and then has the time and LF has room for it
+--   time_size   == the bytes of that line
+--   laid_inside == a buffer that begins with `#` and then has the time and LF has room for it
 --   line_compared, number_compared == what the bytes of that buffer are compared for: the line, and the number with no digit after it
 use Prim.Native.Nat.{ℕ, ◌+◌, ◌-◌, ◌≤◌}
 use mathlib.Core.Path.{◌≡◌, ◌∙◌}

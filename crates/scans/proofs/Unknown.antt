@@ -1,10 +1,10 @@
 -- The codes of a step's lines, byte by byte.
 --
---   Spacing s p i   == the search for a space of the line at p has come to i
+--   Spacing s p i == the search for a space of the line at p has come to i
 --   space_start, space_on == such a position at the start, and one further
 --   space_none, space_found, space_end == what stands after the space, at the three ends
 --   scalar, vector, no_change == where the code of a line stands
---   code_known      == whether it is an unknown code
+--   code_known    == whether it is an unknown code
 --   Looking s starts i == the lines before i have no unknown code
 --   looking_start, looking_on == such a position at the start, and one further
 --   one_unknown, none_unknown == the two ends

@@ -1,9 +1,9 @@
 -- The line of a time, read digit by digit, or seen as one number.
 --
---   first_seen      == a first digit
---   Counting s v i  == `#` and the digits of the number v stand before i
+--   first_seen     == a first digit
+--   Counting s v i == `#` and the digits of the number v stand before i
 --   counting_start, counting_on == such a position after the first digit, and one further
---   timed, untimed  == the ends: the line is there, or not
+--   timed, untimed == the ends: the line is there, or not
 --   six_seen, none_seen == the same of a time of six digits
 use Rattle.std.proofs.Common.{◌≡◌, ℕ, zero, suc, ◌+◌, ◌-◌, ◌*◌, ◌/◌, ◌%◌, ◌^◌, ◌<◌, ◌≤◌, true, cond, ◌&&◌, eqb, leb, List, [], ◌∷◌, ◌++◌, length, get_or, take, drop, sym, ap, ◌∙◌, append-nil, pow-suc, add-one, arith, length-drop, take-append-drop, get_or-drop, drop-cons, take-suc, drop-drop, le-ltb, lt-ltb, eqb-true, leb-true}
 use native.Mathlib.Nat.{pow-le-pow_right}

@@ -1,8 +1,8 @@
 -- A line that stands at a position.
 --
---   word_at         == the number of the bytes in a slice from q on, as a call is lent it
---   line_here       == a text whose bytes write the number that stands at q stands there
---   kept, changed   == a column passed: as it was, and by its line
+--   word_at       == the number of the bytes in a slice from q on, as a call is lent it
+--   line_here     == a text whose bytes write the number that stands at q stands there
+--   kept, changed == a column passed: as it was, and by its line
 use Rattle.std.proofs.Common.{◌≡◌, ℕ, ◌+◌, ◌-◌, ◌≤◌, List, ◌++◌, length, take, drop, sym, refl, ap, ◌∙◌, add-zero, arith, take-append-drop, drop-drop, eq-eqb, ne_eqb}
 use Rattle.words.specs.Words.{number_low}
 use Rattle.words.proofs.Words.{Bytes, slots_take, same_bytes, number_part}

@@ -2,8 +2,8 @@
 --
 --   copies_fit, characters_fit, characters_bits == eight bits as characters, in one number
 --   octet_fits, octet_read == characters that are those of a number
---   mask_bits       == sixteen bits are eight and eight
---   mask_seen       == the column that such a line changes
+--   mask_bits == sixteen bits are eight and eight
+--   mask_seen == the column that such a line changes
 use Rattle.std.proofs.Common.{◌≡◌, ℕ, ◌+◌, ◌-◌, ◌*◌, ◌/◌, ◌%◌, ◌^◌, ◌<◌, ◌≤◌, Bool, true, false, not, ◌&&◌, eqb, List, [], ◌∷◌, ◌++◌, length, get_or, take, drop, sym, refl, ap, ◌∙◌, arith, eqb-true}
 use mathlib.Core.Bool.{false≢true}
 use borrow.Author.Tests.{eqb-false, not-true}

@@ -1,8 +1,8 @@
 -- The columns of a step one after the other, and the whole step.
 --
 --   inputs_passed, outputs_passed == the columns of each side
---   tests_pass      == a cycle that passes the tests
---   step_seen       == a good step is the one that is written, so the reader reads it
+--   tests_pass == a cycle that passes the tests
+--   step_seen  == a good step is the one that is written, so the reader reads it
 use Rattle.std.proofs.Common.{◌≡◌, ℕ, ◌+◌, ◌/◌, ◌^◌, ◌<◌, ◌≤◌, Bool, true, false, cond, not, ◌&&◌, eqb, ltb, List, [], ◌∷◌, ◌++◌, length, get_or, take, drop, sym, refl, ap, ◌∙◌, inr, append_assoc, add-zero, zero-add, arith, length-append, length-drop, get_or-drop, take_at, ltb-true, ne_eqb, eqb-true}
 use mathlib.Core.Bool.{false≢true}
 use borrow.Author.Tests.{not-true}

@@ -1,10 +1,10 @@
 -- What is seen of a step: a column that changed stands there as its line, and of another there is nothing.
 --
---   variable w k    == the variable of width w with the code k
---   piece x v u     == the line of the variable x whose value was v and is u, if it changed
---   counted vs us   == how many of the values vs are others in us
---   First s d       == s begins with `#` and the digit d, if d is not 0
---   Timed t s p     == s begins with the line of the time t, and p is the position after it; or p is 0
+--   variable w k  == the variable of width w with the code k
+--   piece x v u   == the line of the variable x whose value was v and is u, if it changed
+--   counted vs us == how many of the values vs are others in us
+--   First s d     == s begins with `#` and the digit d, if d is not 0
+--   Timed t s p   == s begins with the line of the time t, and p is the position after it; or p is 0
 --   Passed w k v s q l u next m == from q, where a line of the variable of width w with the code k may stand, to next; its value was v and is u;
 --                      l lines stood before q, and m before next
 --   InputsPassed x s q l y next m, OutputsPassed x s q l y next m == the same over the columns of a stimulus, and over those that a trace line adds

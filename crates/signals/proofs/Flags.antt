@@ -1,16 +1,16 @@
 -- Numbers that stand for flags: what `&`, `|` and `1 -` make of them.
 --
---   binary           == what holds of 0 and of 1 holds of a number that is at most 1
---   as_flag          == a number that is 0 or 1 stands for a flag
---   digit            == so does a binary digit
---   small            == a number that stands for a flag is 0 or 1
---   both, any, none  == `&`, `|` and `1 -`
---   by               == a flag by another name
---   not_by           == a flag that is not another, by another name of that
---   low              == a number that is 0 stands for a low flag
---   high             == a number that stands for a flag, compared with 1
---   low_number       == a number that is 0 or 1, compared with 0
---   same             == a flag compared as a number
+--   binary          == what holds of 0 and of 1 holds of a number that is at most 1
+--   as_flag         == a number that is 0 or 1 stands for a flag
+--   digit           == so does a binary digit
+--   small           == a number that stands for a flag is 0 or 1
+--   both, any, none == `&`, `|` and `1 -`
+--   by              == a flag by another name
+--   not_by          == a flag that is not another, by another name of that
+--   low             == a number that is 0 stands for a low flag
+--   high            == a number that stands for a flag, compared with 1
+--   low_number      == a number that is 0 or 1, compared with 0
+--   same            == a flag compared as a number
 use Prim.Native.Nat.{ℕ, zero, suc, ◌-◌, ◌%◌, ◌≤◌}
 use mathlib.Core.Path.{◌≡◌, refl, sym, ◌∙◌, ap}
 use mathlib.Core.Bool.{Bool, true, false, not, ◌&&◌, ◌||◌, beq}

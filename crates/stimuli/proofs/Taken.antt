@@ -1,9 +1,9 @@
 -- One line of the arbiter program, taken or not.
 --
 --   good_inputs, same_text, whole_line == a stimulus line that was read is valid, has the text of its columns, and is whole
---   formed_masters  == a well-formed state has a number of masters that is served
---   gone            == a cycle that is taken: its trace line, and the state after it
---   line_taken      == what a cycle comes to is what its line does
+--   formed_masters == a well-formed state has a number of masters that is served
+--   gone           == a cycle that is taken: its trace line, and the state after it
+--   line_taken     == what a cycle comes to is what its line does
 --   untaken, left_untaken == where no line is taken, by a glance, and at the end of the loop
 --   full, stops_full == a good line after the last cycle is refusal 8
 use Prim.Native.Nat.{ℕ, ◌+◌, ◌-◌, ◌≤◌, ◌<◌}

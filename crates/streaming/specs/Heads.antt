@@ -1,9 +1,9 @@
 -- The header and the end of the input, as the calls of the two programs take them.
 --
---   head_room           == the room that a header and the line of its refusal need
---   arbiter_headed h    == what a stimulus header comes to: the trace header and the reset state, or the line of its refusal
---   head_answer h       == the number that the arbiter's call answers which takes a header: 0, or that of its refusal
---   judge_headed h      == what a trace header comes to: the judge at its start, or the line of its refusal
+--   head_room        == the room that a header and the line of its refusal need
+--   arbiter_headed h == what a stimulus header comes to: the trace header and the reset state, or the line of its refusal
+--   head_answer h    == the number that the arbiter's call answers which takes a header: 0, or that of its refusal
+--   judge_headed h   == what a trace header comes to: the judge at its start, or the line of its refusal
 --   arbiter_head_of, arbiter_head_left, judge_head_of, judge_head_left == the answers of the calls that take a header, and the buffer afterwards
 --   judge_end_of, judge_end_left == the answer of the call that writes the end line, and the buffer afterwards
 use Rattle.std.specs.Prelude.{ℕ, true, cond, List, [], ltb, length}

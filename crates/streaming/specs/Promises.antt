@@ -1,5 +1,5 @@
 -- What is promised of the programs as they run: header first, then block by block. Each statement is proved in proofs/Promises.antt
--- by a law of its name, in lower case with hyphens.
+-- by a law of its name, in lower case with underscores.
 --
 --   arbiter_run h, judge_run h == what a program writes for a header that was read and the blocks after it
 use Rattle.std.specs.Prelude.{ℕ, ◌≤◌, ◌<◌, ◌≡◌, true, List, [], ◌++◌, length, take, drop}

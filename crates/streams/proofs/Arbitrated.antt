@@ -1,6 +1,6 @@
 -- One line of the arbiter program.
 --
---   shown_good      == the trace line of a step that is taken is valid
+--   shown_good          == the trace line of a step that is taken is valid
 --   stepped_on, stepped_out == the two ends of a step
 --   read_line, read_none, read_refused == the three ends of a line
 --   arbiter_program_lem == it goes by lines, none of which writes more bytes than a trace line, and the state stays well formed

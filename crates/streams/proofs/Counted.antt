@@ -1,8 +1,8 @@
 -- A program counts its lines: a stretch that goes on has counted those of its block, and comes to no more than 1,000,000.
 --
 --   Counting count turn == a turn that goes on has counted its line
---   Used           == what is counted where a block is used up
---   used           == a stretch that goes on has used up its block
+--   Used == what is counted where a block is used up
+--   used == a stretch that goes on has used up its block
 --   arbiter_counts, judge_counts == the turns of the two programs
 use Prim.Native.Nat.{ℕ, zero, suc, ◌+◌, ◌*◌, ◌≤◌}
 use mathlib.Core.Path.{◌≡◌, refl, ap}

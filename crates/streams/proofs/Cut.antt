@@ -1,9 +1,9 @@
 -- Wherever the blocks are cut, the same bytes are written.
 --
---   enough         == more turns than there are bytes write no more
---   cut            == a block that may be cut, and then the rest
---   tail           == a last block, which may be cut, and then the end
---   in_blocks      == any number of blocks that may be cut, and a last one
+--   enough        == more turns than there are bytes write no more
+--   cut           == a block that may be cut, and then the rest
+--   tail          == a last block, which may be cut, and then the end
+--   in_blocks_lem == any number of blocks that may be cut, and a last one
 use Prim.Native.Nat.{ℕ, zero, suc, ◌+◌, ◌≤◌, ◌<◌}
 use mathlib.Core.Path.{◌≡◌, refl, ◌∙◌, ap}
 use mathlib.Core.List.{List, [], ◌∷◌, ◌++◌, append_assoc}

@@ -1,7 +1,7 @@
 -- The promises of specs/Enough.antt, each under its name.
 --
---   more_stop      == a stretch over more lines than a run may have has stopped
---   tally_room     == what the judging program keeps has counted no more than that
+--   more_stop  == a stretch over more lines than a run may have has stopped
+--   tally_room == what the judging program keeps has counted no more than that
 use Prim.Native.Nat.{ℕ, ◌*◌, ◌≤◌, ◌<◌}
 use mathlib.Core.Path.{◌≡◌, refl}
 use mathlib.Core.Bool.{Bool, true, false, cond}

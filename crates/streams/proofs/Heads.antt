@@ -1,7 +1,7 @@
 -- A header is told by its first bytes.
 --
---   head_near       == the bytes that a program reads tell the header of the whole input
---   head_size_lem       == and are those of the header, where it is accepted
+--   head_near     == the bytes that a program reads tell the header of the whole input
+--   head_size_lem == and are those of the header, where it is accepted
 use Prim.Native.Nat.{ℕ, zero, suc, ◌+◌, ◌-◌, ◌*◌, ◌≤◌}
 use mathlib.Core.Path.{◌≡◌, refl}
 use mathlib.Core.Bool.{Bool, true, false, not, ◌&&◌, cond}

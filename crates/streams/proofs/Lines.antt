@@ -1,9 +1,9 @@
 -- A program that goes by lines of one width: how it steps, and where its input may be cut.
 --
---   stepping       == it takes as many bytes as a line has
---   taken          == where it goes on, that is what it took
---   cutting        == its input may be cut after whole lines
---   all_cut        == whole blocks may be cut one after the other
+--   stepping == it takes as many bytes as a line has
+--   taken    == where it goes on, that is what it took
+--   cutting  == its input may be cut after whole lines
+--   all_cut  == whole blocks may be cut one after the other
 use Prim.Native.Nat.{ℕ, zero, suc, ◌+◌, ◌*◌, ◌-◌, ◌≤◌, ◌<◌}
 use mathlib.Core.Path.{◌≡◌, refl, ◌∙◌}
 use mathlib.Core.Bool.{true, false≢true}

@@ -1,11 +1,11 @@
 -- A block taken line by line, for any program that goes by lines.
 --
---   Program ..      == a line writes no more than most bytes, and what is kept stays well formed
---   Ended ..        == how the block ended: all its bytes, and the state
---   begun           == a loop stands so at the start
+--   Program .. == a line writes no more than most bytes, and what is kept stays well formed
+--   Ended ..   == how the block ended: all its bytes, and the state
+--   begun      == a loop stands so at the start
 --   same_size, room, lent == the buffer keeps its length, and has room for one line more
 --   small, later_size == a line writes no more than that, and the buffer still has its length
---   goes_on, line_on, stopped, used_up == one line that goes on, and one of a fixed width; one that stops; the end of the block
+--   goes_on_lem, line_on, stopped, used_up == one line that goes on, and one of a fixed width; one that stops; the end of the block
 --   whole_left, inside_block, falls, ends == the test and the measure of a loop over whole lines
 use Prim.Native.Nat.{ℕ, zero, suc, ◌+◌, ◌-◌, ◌*◌, ◌/◌, ◌≤◌, ◌<◌}
 use mathlib.Core.Path.{◌≡◌, refl, sym, ap, ◌∙◌}

@@ -1,12 +1,12 @@
 -- Wherever the blocks are cut: a program that goes through whole lines or steps, block by block, writes the same.
 --
---   Whole w a          == the block a is a whole number of lines of w bytes
+--   Whole w a        == the block a is a whole number of lines of w bytes
 --   Stepping least most turn == a turn takes at least and at most so many bytes, which are there, and stops where nothing is left
---   Cutting turn Cut   == the input may be cut between a and b where Cut a b holds
---   ByLines w turn     == a turn looks at no more than the first w bytes of its input, goes on only after them, and stops where nothing is left
+--   Cutting turn Cut == the input may be cut between a and b where Cut a b holds
+--   ByLines w turn   == a turn looks at no more than the first w bytes of its input, goes on only after them, and stops where nothing is left
 --   in_blocks turn s blocks last == what is written block by block; the last one ends the input, and may be cut
---   tally_formed b      == what the judging program keeps is well formed
---   flow_answer f       == the number that a call answers which takes one block: 0, or that of its refusal
+--   tally_formed b   == what the judging program keeps is well formed
+--   flow_answer f    == the number that a call answers which takes one block: 0, or that of its refusal
 --   arbiter_block_of, arbiter_block_left, judge_block_of, judge_block_left == the answers of the calls that take one block, and the buffer afterwards
 use Rattle.std.specs.Prelude.{ℕ, ◌+◌, ◌*◌, ◌/◌, ◌≤◌, ◌<◌, ◌≡◌, Bool, ◌&&◌, cond, List, [], ◌∷◌, ◌++◌, ltb, leb, length, drop}
 use Rattle.rules.specs.declared.Refusal.TheVariants as refusal

@@ -1,7 +1,7 @@
 -- The breaches of one cycle as they are written, and what the judging program keeps.
 --
---   Reported t rs ..   == what the call that writes the breaches of cycle t answers, for the charged rules rs
---   Formed b           == what the judging program keeps is well formed, as facts
+--   Reported t rs .. == what the call that writes the breaches of cycle t answers, for the charged rules rs
+--   Formed b         == what the judging program keeps is well formed, as facts
 use Rattle.std.specs.Prelude.{ℕ, ◌*◌, ◌≤◌, ◌≡◌, List, length}
 use Rattle.rulebook.specs.declared.Rule.{Rule}
 use Rattle.rulebook.specs.Rules.{rules}

@@ -1,5 +1,5 @@
 -- How far a program may go. After 1,000,000 good lines the next line, whatever it is, stops the program: so a loop over reads needs no bound of its
--- own. proofs/Enough.antt has the proof of each promise, under the same name in lower case with hyphens.
+-- own. proofs/Enough.antt has the proof of each promise, under the same name in lower case with underscores.
 --
 --   has_stopped t         == the stretch t has stopped
 use Rattle.std.specs.Prelude.{ℕ, ◌+◌, ◌*◌, ◌≤◌, ◌<◌, ◌≡◌, Bool, true, false, List, length}

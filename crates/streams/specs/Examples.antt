@@ -1,8 +1,8 @@
 -- The page's whole run through the two programs, as texts: what is read, and what is written.
 --
---   Job                == which program, and what it reads
---   writes j           == what it writes by the definitions
---   jobs               == the run, its HGRANT 0002 variant, a header alone, and refusals at their lines
+--   Job      == which program, and what it reads
+--   writes j == what it writes by the definitions
+--   jobs     == the run, its HGRANT 0002 variant, a header alone, and refusals at their lines
 use Rattle.std.specs.Prelude.{ℕ, List, [], ◌∷◌}
 use Prim.Native.String.{String}
 use Rattle.formats.specs.Texts.{bytes}

@@ -1,8 +1,8 @@
 -- The judging program: trace in, report out.
 --
---   breach_lines t rs   == the breach lines of cycle t
---   judge_turn b rest   == one trace line: it is read, the judge takes it, and its breaches are written
---   judge_program s     == all that the program writes for the input s
+--   breach_lines t rs == the breach lines of cycle t
+--   judge_turn b rest == one trace line: it is read, the judge takes it, and its breaches are written
+--   judge_program s   == all that the program writes for the input s
 use Rattle.std.specs.Prelude.{ℕ, suc, ◌+◌, List, [], ◌∷◌, ◌++◌, length, drop}
 use Rattle.rulebook.specs.declared.Rule.{Rule}
 use Rattle.rulebook.specs.declared.Verdict.{Verdict}

@@ -1,5 +1,5 @@
 -- What a program keeps stays well formed: no block of a run meets 10. Each statement is proved in proofs/Stays.antt by a law of its name, in
--- lower case with hyphens.
+-- lower case with underscores.
 --
 --   kept t             == what is kept after a stretch
 use Rattle.std.specs.Prelude.{ℕ, ◌≤◌, ◌≡◌, true, List, length}

@@ -1,10 +1,10 @@
 -- A program that goes through its input line by line: what it writes is a function of the bytes it reads.
 --
---   Turn S             == one line's doing: it writes some bytes and goes on in the next state after so many bytes, or it writes and stops
+--   Turn S      == one line's doing: it writes some bytes and goes on in the next state after so many bytes, or it writes and stops
 --   written turn k s rest == all that is written from the state s on, for the input that is left; k bounds the lines
 --   Stretch S, stretch turn k s block == the same for a block of the input, at whose end there may be more to come; it ends in a state,
 --                         in which it goes on or has stopped
---   then more t        == a stretch, and what is written after it
+--   then more t == a stretch, and what is written after it
 use Rattle.std.specs.Prelude.{ℕ, zero, suc, List, [], ◌∷◌, ◌++◌, drop}
 
 pub data Turn (S : Type 0) : Type 0 where

@@ -1,10 +1,10 @@
 -- One line, as the calls that take it answer.
 --
---   over bytes buffer  == the buffer with these bytes at its start, and the rest untouched
---   size_of w           == the bytes that a writer wrote
+--   over bytes buffer == the buffer with these bytes at its start, and the rest untouched
+--   size_of w         == the bytes that a writer wrote
 --   Put bytes buffer k left == a writer wrote these bytes, k of them
 --   bytes_in t, goes_on t, state_after s t, taken_by t == the bytes that a turn writes, whether it goes on, the state it ends in, and how many bytes it takes
---   Lined s t ..       == the answer of a call that takes one line, and the buffer afterwards, are those of the turn t
+--   Lined s t ..      == the answer of a call that takes one line, and the buffer afterwards, are those of the turn t
 use Rattle.std.specs.Prelude.{ℕ, ◌≡◌, Bool, true, false, List, ◌++◌, length, drop}
 use Rattle.formats.specs.declared.Written.{Written}
 use Rattle.formats.specs.declared.Written.TheVariants.{Bytes, Refused}

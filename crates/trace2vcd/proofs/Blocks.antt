@@ -1,9 +1,9 @@
 -- The program trace2vcd from read to read.
 --
---   answered       == what a call answered, sorted
---   roomy          == what was read has room for what it comes to
---   formed_on      == a program that went on stays well formed, and read at least a byte of no more than 1,000,001 lines
---   lent           == the program's buffers
+--   answered  == what a call answered, sorted
+--   roomy     == what was read has room for what it comes to
+--   formed_on == a program that went on stays well formed, and read at least a byte of no more than 1,000,001 lines
+--   lent      == the program's buffers
 --   begun_formed, begins, refuses == a header that is accepted begins before cycle 0; one that is refused ends the program
 use Prim.Native.Nat.{ℕ, ◌+◌, ◌*◌, ◌≤◌, ◌<◌}
 use mathlib.Core.Path.{◌≡◌, refl, sym, ◌∙◌, ap}

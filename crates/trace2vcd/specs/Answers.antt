@@ -1,8 +1,8 @@
 -- What the contracts of trace2vcd cite beside the definitions of the other crates.
 --
---   no_breach p         == the program names no breach
---   begun_with n        == it begins so after a header with n
---   Answered a on e p  == what it makes of the answer a of a header or a block, where its bytes were given or not
+--   no_breach p       == the program names no breach
+--   begun_with n      == it begins so after a header with n
+--   Answered a on e p == what it makes of the answer a of a header or a block, where its bytes were given or not
 use Rattle.std.specs.Prelude.{ℕ, ◌≡◌, Bool, ◌&&◌}
 use Rattle.console.specs.declared.Ending.{Ending}
 use Rattle.console.specs.Going.{goes_on_after}

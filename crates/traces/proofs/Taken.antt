@@ -1,10 +1,10 @@
 -- One line of the judging program, taken or not.
 --
 --   good_cycle, whole_line == a trace line that was read is valid, and is whole
---   formed_masters  == what is kept has a number of masters that is served
---   few_named       == no cycle charges more rules than there are
---   went_on         == a cycle that is taken: its breach lines, and what is kept
---   line_taken      == so a line that was read goes on
+--   formed_masters == what is kept has a number of masters that is served
+--   few_named      == no cycle charges more rules than there are
+--   went_on        == a cycle that is taken: its breach lines, and what is kept
+--   line_taken     == so a line that was read goes on
 --   untaken, left_untaken == where no line is taken, by a glance, and at the end of the loop
 --   full, stops_full == a good line after the last cycle is refusal 8
 use Prim.Native.Nat.{ℕ, ◌+◌, ◌-◌, ◌≤◌, ◌<◌}

@@ -1,11 +1,11 @@
 -- The program vcd2trace from read to read.
 --
---   answered       == what a call answered, sorted
---   roomy          == what was read has room for what it comes to
---   still_held     == buffers of the same sizes serve for the next block
+--   answered   == what a call answered, sorted
+--   roomy      == what was read has room for what it comes to
+--   still_held == buffers of the same sizes serve for the next block
 --   cut_inside, cut_parted == what is taken of n bytes, and what is kept
---   kept_went      == a read, of which some bytes are taken and the rest is kept: the program went on, or it ends
---   formed_on      == a program that went on stays well formed, and is nearer to its end
+--   kept_went  == a read, of which some bytes are taken and the rest is kept: the program went on, or it ends
+--   formed_on  == a program that went on stays well formed, and is nearer to its end
 --   begun_formed, begins, refuses == a header that is accepted begins before cycle 0; one that is refused ends the program
 use Prim.Native.Nat.{ℕ, ◌+◌, ◌*◌, ◌-◌, ◌≤◌, ◌<◌}
 use mathlib.Core.Path.{◌≡◌, refl, sym, ◌∙◌, ap}

@@ -1,9 +1,9 @@
 -- What the contracts of vcd2trace cite beside the definitions of the other crates.
 --
---   no_breach p         == the program names no breach
---   begun_with n        == it begins so after a header with n
---   Answered a on e p  == what it makes of the answer a of a header or a block, where its bytes were given or not
---   Held block out     == buffers of these sizes: one for more bytes than a step can have, and one with room for what a block of them comes to
+--   no_breach p       == the program names no breach
+--   begun_with n      == it begins so after a header with n
+--   Answered a on e p == what it makes of the answer a of a header or a block, where its bytes were given or not
+--   Held block out    == buffers of these sizes: one for more bytes than a step can have, and one with room for what a block of them comes to
 use Rattle.std.specs.Prelude.{ℕ, ◌≤◌, ◌≡◌, Bool, ◌&&◌}
 use Rattle.console.specs.declared.Ending.{Ending}
 use Rattle.console.specs.Going.{goes_on_after, Lent}

@@ -1,8 +1,8 @@
 -- An input that begins with given bytes.
 --
---   begins_append      == what stands first is what the input begins with
---   begins_split       == an input that begins with t is t and the rest
---   begins_other       == an input whose first byte is another does not
+--   begins_append == what stands first is what the input begins with
+--   begins_split  == an input that begins with t is t and the rest
+--   begins_other  == an input whose first byte is another does not
 use Prim.Native.Nat.{ℕ, ◌<◌}
 use mathlib.Core.Path.{◌≡◌, refl, ap₂}
 use mathlib.Core.Bool.{true, false, false≢true}

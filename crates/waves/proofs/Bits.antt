@@ -1,10 +1,10 @@
 -- Numbers in bits, the highest first: what is written reads back, and what is read writes back.
 --
---   bits_length        == w bits are w bytes
---   bits_plain         == none of them is LF
---   is_bit b, bit_is    == a byte is '0' or '1'
---   bits_in            == the number that w bits wrote reads back, whatever follows them
---   bits_of            == a number that was read in w characters, each a bit, writes back as those characters
+--   bits_length      == w bits are w bytes
+--   bits_plain       == none of them is LF
+--   is_bit b, bit_is == a byte is '0' or '1'
+--   bits_in_lem      == the number that w bits wrote reads back, whatever follows them
+--   bits_of          == a number that was read in w characters, each a bit, writes back as those characters
 use Prim.Native.Nat.{ℕ, zero, suc, ◌+◌, ◌-◌, ◌*◌, ◌/◌, ◌%◌, ◌^◌, ◌≤◌, ◌<◌}
 use mathlib.Core.Path.{◌≡◌, refl, sym, ◌∙◌, ap, ap₂}
 use mathlib.Core.Bool.{Bool, true, ◌||◌, false≢true}

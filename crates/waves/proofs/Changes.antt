@@ -1,16 +1,16 @@
 -- The line of a value: what is written is placed and reads back, and what is placed and read writes back.
 --
---   front x v          == the bytes of such a line before its code
---   change_parts       == the line is its front, the code and LF, before whatever follows it
---   change_is          == and so it is alone
---   change_length      == it has the bytes that its variable says
+--   front x v     == the bytes of such a line before its code
+--   change_parts  == the line is its front, the code and LF, before whatever follows it
+--   change_is     == and so it is alone
+--   change_length == it has the bytes that its variable says
 --   front_plain, front_head == no byte of its front is LF, and the first is not `#`
---   line_size_lem          == the first line of an input ends where its LF is
---   change_placed      == a written line is placed
+--   line_size_lem == the first line of an input ends where its LF is
+--   change_placed == a written line is placed
 --   other_placed, none_placed == the line of another variable is not, nor is nothing
---   change_value       == its value reads back, where the width holds it
---   change_rest        == what stands after it
---   placed_change      == a line that is placed, and whose characters are bits, writes back as the bytes that stood there
+--   change_value  == its value reads back, where the width holds it
+--   change_rest   == what stands after it
+--   placed_change == a line that is placed, and whose characters are bits, writes back as the bytes that stood there
 use Prim.Native.Nat.{ℕ, suc, ◌+◌, ◌-◌, ◌^◌, ◌≤◌, ◌<◌}
 use mathlib.Core.Path.{◌≡◌, refl, sym, ◌∙◌, ap}
 use mathlib.Core.Bool.{Bool, true, false, ◌&&◌, ◌||◌, cond}

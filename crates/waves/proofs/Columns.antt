@@ -1,8 +1,8 @@
 -- The eleven variables and the values of a cycle.
 --
---   codes_rise         == the codes of the variables rise
---   valid_within       == their widths hold the values of a valid cycle
---   values_cycle       == eleven values are those of their cycle
+--   codes_rise   == the codes of the variables rise
+--   valid_within == their widths hold the values of a valid cycle
+--   values_cycle == eleven values are those of their cycle
 use Prim.Native.Nat.{ℕ, suc, ◌+◌, ◌≤◌, ◌<◌}
 use mathlib.Core.Path.{◌≡◌, sym, ◌∙◌}
 use mathlib.Core.List.{List, [], ◌∷◌}

@@ -1,12 +1,12 @@
 -- Where a step ends: before a line that begins with `#`, at the end of the input, or after as many bytes as are looked at.
 --
---   Text l             == l ends with LF, and no other LF in it stands before `#`
+--   Text l       == l ends with LF, and no other LF in it stands before `#`
 --   plain_text, text_append == a line is one, and so are two after each other, where the second begins with another byte
---   up_to_text         == a text that is short enough is what the step comes to, where it ends
---   up_to_rest         == a step and what stands after it are the input
---   up_to_ends         == a step of fewer bytes ends there
---   up_to_parted       == after LF and before `#` nothing more is looked at
---   up_to_long         == nor after as many bytes as are looked at
+--   up_to_text   == a text that is short enough is what the step comes to, where it ends
+--   up_to_rest   == a step and what stands after it are the input
+--   up_to_ends   == a step of fewer bytes ends there
+--   up_to_parted == after LF and before `#` nothing more is looked at
+--   up_to_long   == nor after as many bytes as are looked at
 use Prim.Native.Nat.{ℕ, zero, suc, ◌≤◌, ◌<◌}
 use mathlib.Core.Path.{◌≡◌, refl, sym, ◌∙◌, ap}
 use mathlib.Core.Logic.{inl, inr}

@@ -1,7 +1,7 @@
 -- Whole dumps: what is written reads back, and what is read writes back.
 --
---   steps_read         == written steps read back, with fuel for one more
---   steps_write        == steps that come to the end write back as the bytes from their start on, with fuel for every byte
+--   steps_read  == written steps read back, with fuel for one more
+--   steps_write == steps that come to the end write back as the bytes from their start on, with fuel for every byte
 --   dump_reads, dump_writes == the two round trips of a dump
 use Prim.Native.Nat.{ℕ, zero, suc, ◌+◌, ◌≤◌, ◌<◌}
 use mathlib.Core.Path.{◌≡◌, refl, sym, ◌∙◌, ap, ap₂}

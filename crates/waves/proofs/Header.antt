@@ -1,7 +1,7 @@
 -- The header of a dump: what is written reads back, and what is read writes back.
 --
---   header_reads       == a written header reads back, whatever comes after it
---   header_writes      == a header that was read writes back as the bytes that stood there
+--   header_reads  == a written header reads back, whatever comes after it
+--   header_writes == a header that was read writes back as the bytes that stood there
 use Prim.Native.Nat.{ℕ, suc, ◌+◌, ◌-◌, ◌*◌, ◌/◌, ◌%◌, ◌≤◌, ◌<◌}
 use mathlib.Core.Path.{◌≡◌, refl, sym, ◌∙◌, ap, ap₂}
 use mathlib.Core.Bool.{Bool, true, false, false≢true}

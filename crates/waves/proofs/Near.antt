@@ -1,14 +1,14 @@
 -- What a reader of steps looks at: what stands from its position on, and of that no more than the step.
 --
---   near_parted        == after LF, and before `#`, nothing more is looked at
---   near_long          == nor after 104 bytes
---   near_next          == what is read has 3 to 104 bytes, all of them there, and a step ends after it
---   moved p r          == what was found, with the next position p bytes later
---   near_shift         == nothing before the position is looked at
+--   near_parted       == after LF, and before `#`, nothing more is looked at
+--   near_long         == nor after 104 bytes
+--   near_next         == what is read has 3 to 104 bytes, all of them there, and a step ends after it
+--   moved p r         == what was found, with the next position p bytes later
+--   near_shift        == nothing before the position is looked at
 --   end_reads, end_read == there is no more step exactly at the end of the input, once n is tested
---   lines_append       == the lines of two texts, one after the other
---   changed all vs us  == how many values are written
---   lines_of_step      == a step has a line for each of them, and that of its time
+--   lines_append      == the lines of two texts, one after the other
+--   changed all vs us == how many values are written
+--   lines_of_step     == a step has a line for each of them, and that of its time
 use Prim.Native.Nat.{ℕ, ◌+◌, ◌≤◌, ◌<◌}
 use mathlib.Core.Path.{◌≡◌, refl, sym, ◌∙◌, ap, ap₂}
 use mathlib.Core.Bool.{Bool, true, false, not, ◌||◌, cond, true≢false}

@@ -1,12 +1,12 @@
 -- The lines of a step after its time, over any variables whose codes rise: what is written reads back, and what is read writes back.
 --
---   Coded xs           == the codes of xs rise, and each is one of the eleven
---   Within xs us       == there is a value for each variable, and its width holds it
---   total xs           == the bytes of a line for each variable
---   changes_length     == there are no more bytes
+--   Coded xs       == the codes of xs rise, and each is one of the eleven
+--   Within xs us   == there is a value for each variable, and its width holds it
+--   total xs       == the bytes of a line for each variable
+--   changes_length == there are no more bytes
 --   changes_shaped, changes_values == what was written has its shape, and the values after it are those that were written
---   values_length      == there is a value for each variable
---   shaped_changes     == what has its shape, and whose characters are bits, writes back as the bytes that stood there
+--   values_length  == there is a value for each variable
+--   shaped_changes == what has its shape, and whose characters are bits, writes back as the bytes that stood there
 use Prim.Native.Nat.{ℕ, suc, ◌+◌, ◌^◌, ◌≤◌, ◌<◌}
 use mathlib.Core.Path.{◌≡◌, refl, ap}
 use mathlib.Core.Bool.{Bool, true, false, not, ◌&&◌, ◌||◌, false≢true}

@@ -1,10 +1,10 @@
 -- The bytes of a written step: how many they are, and where they end.
 --
---   step_text_lem          == they are one text, which ends with LF
---   step_short         == of a time below 1,000,000 they are at most 104
---   step_long          == and at least 3
---   step_head          == the first is `#`, whatever follows them
---   step_whole         == they are the step that an input begins with, where a step ends after them
+--   step_text_lem == they are one text, which ends with LF
+--   step_short    == of a time below 1,000,000 they are at most 104
+--   step_long     == and at least 3
+--   step_head     == the first is `#`, whatever follows them
+--   step_whole    == they are the step that an input begins with, where a step ends after them
 use Prim.Native.Nat.{ℕ, ◌≤◌, ◌<◌}
 use mathlib.Core.Path.{◌≡◌, refl}
 use mathlib.Core.Bool.{Bool, not, ◌||◌}

@@ -1,7 +1,7 @@
 -- A step: what is written reads back, and what is read writes back.
 --
---   step_reads         == a written step reads back, at any position, where a step ends after it
---   step_writes        == what was read writes back as the bytes that stood there
+--   step_reads  == a written step reads back, at any position, where a step ends after it
+--   step_writes == what was read writes back as the bytes that stood there
 use Prim.Native.Nat.{ℕ, ◌+◌, ◌≤◌, ◌<◌}
 use mathlib.Core.Path.{◌≡◌, refl, sym, ◌∙◌, ap, subst}
 use mathlib.Core.Bool.{Bool, true, false, true≢false, false≢true}

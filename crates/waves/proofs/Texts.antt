@@ -1,7 +1,7 @@
 -- The texts and the table of cases, computed.
 --
---   as_printed         == the header and steps are the texts of the request
---   numbered           == each call is answered with the number that the request gives it
+--   as_printed == the header and steps are the texts of the request
+--   numbered   == each call is answered with the number that the request gives it
 use mathlib.Core.Path.{◌≡◌, refl}
 use mathlib.Core.List.{map}
 use Rattle.rules.specs.Codes.{burst_of}

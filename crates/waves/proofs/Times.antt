@@ -1,11 +1,11 @@
 -- The line of the time.
 --
---   time_parts         == the line is `#`, the digits and LF, before whatever follows it
---   time_plain         == nothing in it is LF but its end
---   time_length        == of a time below 1,000,000 it has at most 8 bytes
---   time_is_lem            == it writes its time
---   time_right         == which is then not another number
---   time_below         == a time that is not full is below 1,000,000
+--   time_parts  == the line is `#`, the digits and LF, before whatever follows it
+--   time_plain  == nothing in it is LF but its end
+--   time_length == of a time below 1,000,000 it has at most 8 bytes
+--   time_is_lem == it writes its time
+--   time_right  == which is then not another number
+--   time_below  == a time that is not full is below 1,000,000
 use Prim.Native.Nat.{ℕ, zero, suc, ◌+◌, ◌/◌, ◌%◌, ◌^◌, ◌≤◌, ◌<◌}
 use mathlib.Core.Path.{◌≡◌, sym, ◌∙◌, ap}
 use mathlib.Core.Bool.{true, false, and-true, and-false}

@@ -1,9 +1,9 @@
 -- A written step has no value of an unknown variable.
 --
---   unknown_skips      == nothing is unknown in the rest of a line whose start was passed
---   code_in_lem            == the code of a written line is found
---   changes_known      == no line of a value that was written has an unknown code
---   step_known         == nor has the step
+--   unknown_skips == nothing is unknown in the rest of a line whose start was passed
+--   code_in_lem   == the code of a written line is found
+--   changes_known == no line of a value that was written has an unknown code
+--   step_known    == nor has the step
 use Prim.Native.Nat.{ℕ, zero, suc, ◌+◌, ◌/◌, ◌%◌, ◌^◌, ◌≤◌}
 use mathlib.Core.Path.{◌≡◌, refl, ◌∙◌, ap}
 use mathlib.Core.Bool.{Bool, true, false, not, ◌||◌, and-false}

@@ -1,8 +1,8 @@
 -- Whole dumps: a header and a step for each cycle, written and read.
 --
---   dump n cs          == the bytes of the dump of the cycles cs
---   read_dump s         == what reading a dump from its start to its end finds
---   line_at s p         == the line of the file in which the position p stands, the first being 1
+--   dump n cs   == the bytes of the dump of the cycles cs
+--   read_dump s == what reading a dump from its start to its end finds
+--   line_at s p == the line of the file in which the position p stands, the first being 1
 use Rattle.std.specs.Prelude.{ℕ, zero, suc, cond, List, [], ◌∷◌, ◌++◌, eqb, length, take}
 use Rattle.rules.specs.declared.Cycle.{Cycle}
 use Rattle.formats.specs.declared.HeaderRead.{HeaderRead}

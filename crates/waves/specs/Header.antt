@@ -1,7 +1,7 @@
 -- The header of a dump, whole. Reading it: 12, also for the empty input, in the place of 2; then 1. Writing it: 1, 9.
 --
---   dump_header n       == the bytes of the header
---   begins s t         == s begins with t
+--   dump_header n         == the bytes of the header
+--   begins s t            == s begins with t
 --   read_dump_header_of s == the answer of reading a header at the start of s
 --   write_dump_header_of, dump_header_written == the answer of writing one, and the buffer afterwards
 use Rattle.std.specs.Prelude.{ℕ, suc, ◌+◌, ◌-◌, ◌*◌, Bool, true, false, not, ◌&&◌, cond, List, [], ◌∷◌, ◌++◌, eqb, length, get_or, drop}

@@ -1,5 +1,5 @@
 -- The promises of a dump, one type for each, beside the sentence that it stands for. proofs/Promises.antt has the proof of each, under
--- the same name in lower case with hyphens.
+-- the same name in lower case with underscores.
 --
 --   Ends s             == a step ends before s: nothing follows it, or a line that begins with `#`
 use Rattle.std.specs.Prelude.{ℕ, ◌+◌, ◌≤◌, ◌<◌, ◌≡◌, ◌⊎◌, ◌↔◌, List, [], ◌++◌, length, get_or, take, drop}

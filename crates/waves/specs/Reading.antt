@@ -1,13 +1,13 @@
 -- A step of a dump as it is read: 1, 13, 8, 14, 3, 4, 5, 6, 7. Each test is of the whole step.
 --
---   step_text s         == the step that s begins with: up to the next line that begins with `#`, or the end of the input, and at most 105 bytes
---   wrong_time t s      == 13: its time is another number than t
---   full_time t s       == 8: its time is t, and that is 1,000,000
---   unknown_in s        == 14: a value of a variable that is none of the eleven
+--   step_text s        == the step that s begins with: up to the next line that begins with `#`, or the end of the input, and at most 105 bytes
+--   wrong_time t s     == 13: its time is another number than t
+--   full_time t s      == 8: its time is t, and that is 1,000,000
+--   unknown_in s       == 14: a value of a variable that is none of the eleven
 --   placed x s         == s begins with a line of the variable x, of its kind and width
---   value_in x s        == the value in that line, and 2 ^ width where a character is no bit
+--   value_in x s       == the value in that line, and 2 ^ width where a character is no bit
 --   shaped all xs vs s == s has nothing but lines of the variables xs, in their order, none of which repeats the value v; all of them in cycle 0
---   values_in xs vs s   == the values after those lines
+--   values_in xs vs s  == the values after those lines
 --   read_step_of n t prev s p == the answer of reading at p the step of cycle t, after the cycle prev
 use Rattle.std.specs.Prelude.{ℕ, zero, suc, ◌+◌, ◌-◌, ◌*◌, ◌^◌, Bool, true, false, not, ◌&&◌, ◌||◌, cond, List, [], ◌∷◌, eqb, ltb, leb, length, get_or, drop}
 use Rattle.rules.specs.declared.Refusal.TheVariants as refusal

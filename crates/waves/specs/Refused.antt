@@ -1,9 +1,9 @@
 -- Each refusal of the readers and writers of a dump by its number, each order of tests, and the neighbours that are taken, as one table.
 -- n = 3, and step 4 after the cycle `second`, unless said; a good step there has the lines `#4` and `b11 $`, in which HTRANS moves from 2 to 3.
 --
---   Call               == a reader of a text, or a writer into a buffer of a length
---   heard c            == the number that the definitions answer
---   asked              == calls, each with the number that the request gives it
+--   Call    == a reader of a text, or a writer into a buffer of a length
+--   heard c == the number that the definitions answer
+--   asked   == calls, each with the number that the request gives it
 use Rattle.std.specs.Prelude.{ℕ, List, [], ◌∷◌}
 use Prim.Native.String.{String}
 use Rattle.rules.specs.declared.Cycle.{Cycle}

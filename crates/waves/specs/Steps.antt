@@ -1,9 +1,9 @@
 -- A step of a dump as it is written: the time, and the values that differ from the cycle before.
 -- Its tests: 1, 8, 4, 5, 6, 7, 9.
 --
---   time_line t         == the line of the time t
+--   time_line t        == the line of the time t
 --   changes all xs vs us == the lines of the variables xs whose value was v and is u: of all, or of those that changed
---   dump_step prev t c  == the bytes of the step of cycle t, which is c, after the cycle prev
+--   dump_step prev t c == the bytes of the step of cycle t, which is c, after the cycle prev
 --   write_step_of, step_written == the answer of writing one into a buffer of some length, and the buffer afterwards
 use Rattle.std.specs.Prelude.{ℕ, Bool, not, ◌||◌, cond, List, [], ◌∷◌, ◌++◌, eqb, leb, length}
 use Rattle.rules.specs.declared.Refusal.TheVariants as refusal

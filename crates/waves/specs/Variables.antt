@@ -1,9 +1,9 @@
 -- "one variable for each of the eleven columns with its width": the table of formats, with a code for each column.
 --
---   variables          == the width and the code of each column, in column order
---   bits w v           == the number v in w bits, the highest first
---   change x v         == the line of the variable x with the value v
---   size_of x           == the bytes of such a line
+--   variables  == the width and the code of each column, in column order
+--   bits w v   == the number v in w bits, the highest first
+--   change x v == the line of the variable x with the value v
+--   size_of x  == the bytes of such a line
 use Rattle.std.specs.Prelude.{ℕ, zero, suc, ◌+◌, ◌/◌, ◌%◌, ◌^◌, cond, List, [], ◌∷◌, ◌++◌, eqb}
 use Rattle.formats.specs.Digits.{lf}
 use Rattle.formats.specs.Columns.{Column, cycle_columns}

@@ -1,7 +1,7 @@
 -- A fact about every number below a bound, shown by computing it for each.
 --
---   up_to k f        == the values of f from 0 up to k, and without it
---   same_below      == two functions whose values below k are the same list are the same below k
+--   up_to k f  == the values of f from 0 up to k, and without it
+--   same_below == two functions whose values below k are the same list are the same below k
 use Prim.Native.Nat.{ℕ, zero, suc, ◌<◌}
 use mathlib.Core.Path.{◌≡◌}
 use mathlib.Core.List.{List, [], ◌∷◌, head-eq_of_cons-eq, tail-eq_of_cons-eq}
