@@ -3,7 +3,7 @@
 --   answered   == what a call answered, sorted
 --   roomy      == what was read has room for what it comes to
 --   still_held == buffers of the same sizes serve for the next block
---   cut_inside, cut_parted == what is taken of n bytes, and what is kept
+--   cut_inside, cut_parted, kept_parted == what is taken of n bytes, and what is kept
 --   kept_went  == a read, of which some bytes are taken and the rest is kept: the program went on, or it ends
 --   formed_on  == a program that went on stays well formed, and is nearer to its end
 --   begun_formed, begins, refuses == a header that is accepted begins before cycle 0; one that is refused ends the program
@@ -83,8 +83,12 @@ module _ (n r : ℕ) (full part : List ℕ) (fits : n ≤ length full) (is : par
   pub cut_inside : r ≤ n
   cut_inside = let size : length (take n full) ≡ n = length-take-le n full fits in omega (arith, c.inside, ap length is)
 
-  pub cut_parted : Parted (take r full) (drop r (take n full))
+  cut_parted : Parted (take r full) (drop r (take n full))
   cut_parted = rw (take-take r n full cut_inside) at (rw is at c.parted)
+
+  -- with k bytes kept, where the others are those that were taken
+  pub kept_parted : (k : ℕ) → n - k ≡ r → Parted (take (n - k) full) (drop (n - k) (take n full))
+  kept_parted k e = rw e cut_parted
 
 -- a read of n bytes, of which k' are kept
 pub kept_went : (p t : Position) (k n k' : ℕ) (old full new : List ℕ) (e : Ending) (goes : Bool) → k' ≤ n

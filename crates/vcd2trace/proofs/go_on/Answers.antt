@@ -1,6 +1,6 @@
 -- `go_on` meets its contract: the whole steps of what was read have room for what they come to, and the rest is less than a step.
-use Rattle.std.proofs.Common.{◌≡◌, ◌-◌, arith}
-use Rattle.vcd2trace.proofs.Blocks.{roomy, cut_inside, cut_parted}
+use Rattle.std.proofs.Common.{arith}
+use Rattle.vcd2trace.proofs.Blocks.{roomy, cut_inside, kept_parted}
 use Rattle.vcd2trace.proofs.go_on.Goals as goal
 
 pub take-t-requires-clause-room : goal.take-t-requires-clause-room
@@ -11,5 +11,4 @@ returns-clause-parted g c =
     let n = c.args.n in
     let r = c.cut-whole.result in
     let inside = cut_inside n r c.args.block.now _ c.requires.inside c.first.ensures c.cut-whole.ensures in
-    let back : n - (n - r) ≡ r = omega arith in
-    rw back (cut_parted n r c.args.block.now _ c.requires.inside c.first.ensures c.cut-whole.ensures)
+    kept_parted n r c.args.block.now _ c.requires.inside c.first.ensures c.cut-whole.ensures _ (omega arith)
