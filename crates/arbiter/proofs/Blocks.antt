@@ -4,6 +4,7 @@
 --   formed_on == the state stays well formed
 --   roomy     == what was read has room for what it comes to
 --   begun_formed, begins, refuses == a header that is accepted begins with the reset state; one that is refused ends the program
+use Rattle.std.specs.Prelude.{Err, Ok}
 use Prim.Native.Nat.{ℕ, ◌+◌, ◌*◌, ◌≤◌, ◌<◌}
 use mathlib.Core.Path.{◌≡◌, refl, sym, ◌∙◌}
 use mathlib.Core.Bool.{Bool, true, ◌&&◌}
@@ -18,8 +19,7 @@ use Rattle.rules.specs.State.{reset_state, well_formed}
 use Rattle.rules.proofs.Choice.{and_left, and_right, cond_elim}
 use Rattle.rules.proofs.WellFormed.{facts_of}
 use Rattle.formats.specs.declared.Word.TheVariants.{Stim}
-use Rattle.formats.specs.declared.HeaderRead.{HeaderRead}
-use Rattle.formats.specs.declared.HeaderRead.TheVariants.{Header, Refused as Unread}
+use Rattle.formats.specs.Results.{HeaderRead}
 use Rattle.formats.specs.Headers.{read_header_of}
 use Rattle.streams.specs.declared.ArbiterStretch.{ArbiterStretch}
 use Rattle.streams.specs.Streams.{Stretch, on, done}
@@ -83,21 +83,21 @@ module _ (head : List ℕ) (room : ℕ) (a : ArbiterHead) (is : a ≡ arbiter_he
   unfolding arbiter_head_of
   taken P few all = rw is (cond_elim P (ltb room head_room) (λ e. few) (λ e. all))
 
-  accepted : (w : ℕ) (s : State) → a ≡ Begun w s → (n : ℕ) × (next : ℕ) × (read_header_of Stim head ≡ Header n next) × (s ≡ reset_state n)
+  accepted : (w : ℕ) (s : State) → a ≡ Begun w s → (n : ℕ) × (next : ℕ) × (read_header_of Stim head ≡ Ok (n, next)) × (s ≡ reset_state n)
   accepted w s =
-      taken (λ h. h ≡ Begun w s → (n : ℕ) × (next : ℕ) × (read_header_of Stim head ≡ Header n next) × (s ≡ reset_state n))
+      taken (λ h. h ≡ Begun w s → (n : ℕ) × (next : ℕ) × (read_header_of Stim head ≡ Ok (n, next)) × (s ≡ reset_state n))
       (λ e. let z : ◌≡◌ {A = ℕ} 0 1 = cc in absurd (omega arith))
       (go (read_header_of Stim head) refl)
     where
       go : (h : HeaderRead) → read_header_of Stim head ≡ h → arbiter_headed h ≡ Begun w s
-          → (n : ℕ) × (next : ℕ) × (read_header_of Stim head ≡ Header n next) × (s ≡ reset_state n)
-      go (Header n next) p e = (n, next, p, cc)
-      go (Unread r) p e = let z : ◌≡◌ {A = ℕ} 0 1 = cc in absurd (omega arith)
+          → (n : ℕ) × (next : ℕ) × (read_header_of Stim head ≡ Ok (n, next)) × (s ≡ reset_state n)
+      go (Ok (n, next)) p e = (n, next, p, cc)
+      go (Err r) p e = let z : ◌≡◌ {A = ℕ} 0 1 = cc in absurd (omega arith)
 
   pub begun_formed : (w : ℕ) (s : State) → a ≡ Begun w s → well_formed s ≡ true
   begun_formed w s e =
       let h = accepted w s e in
-      let ok = header_good Stim head (Header h.0 h.1) h.0 h.1 (sym h.2) refl in
+      let ok = header_good Stim head (Ok (h.0, h.1)) h.0 h.1 (sym h.2) refl in
       let few = leb-true fewest_masters h.0 (and_left (leb fewest_masters h.0) (leb h.0 most_masters) ok) in
       let many = leb-true h.0 most_masters (and_right (leb fewest_masters h.0) (leb h.0 most_masters) ok) in
       rw h.3 (arbiter_stays_formed.0 h.0 few many)
@@ -114,5 +114,5 @@ module _ (head : List ℕ) (room : ℕ) (a : ArbiterHead) (is : a ≡ arbiter_he
       f
     where
       go : (h : HeaderRead) → arbiter_headed h ≡ Refused w → Begins no_breach arbiter_turn (Lines 16) reset_state e h
-      go (Header n next) q = let z : ◌≡◌ {A = ℕ} 0 1 = cc in absurd (omega arith)
-      go (Unread r) q = refused g
+      go (Ok (n, next)) q = let z : ◌≡◌ {A = ℕ} 0 1 = cc in absurd (omega arith)
+      go (Err r) q = refused g

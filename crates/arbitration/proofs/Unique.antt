@@ -5,8 +5,7 @@ use mathlib.Core.Path.{◌≡◌, sym, ◌∙◌}
 use mathlib.Core.Bool.{Bool}
 use Rattle.rules.specs.declared.State.{State}
 use Rattle.rules.specs.declared.Inputs.{Inputs}
-use Rattle.rules.specs.declared.Start.{Start}
-use Rattle.rules.specs.declared.Answer.{Answer}
+use Rattle.rules.specs.Results.{Start, Answer}
 use Rattle.arbitration.proofs.reset.Reads as reset
 use Rattle.arbitration.proofs.well_formed.Reads as well_formed
 use Rattle.arbitration.proofs.step.Reads as step

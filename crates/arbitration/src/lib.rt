@@ -2,20 +2,19 @@
 #![tactic(auto)]
 
 ghost use Rattle.std.specs.Prelude.{◌≡◌, ◌<◌};
-ghost use Rattle.rules.specs.declared.Check.TheVariants.{Good};
 ghost use Rattle.rules.specs.Codes.{most_cycles};
 ghost use Rattle.rules.specs.Valid.{inputs_check};
 ghost use Rattle.rules.specs.State.{reset_of, phase_ok, well_formed, WellFormed};
 ghost use Rattle.rules.specs.Step.{step_of};
 
-use rules::{Answer, Check, Inputs, Phase, Refusal, Start, State};
+use rules::{Inputs, Outputs, Phase, Refusal, State};
 
 // The state after a reset with n masters, or refusal 1.
-pub fn reset(n: u32) -> Start
+pub fn reset(n: u32) -> Result<State, Refusal>
     ensures { result ≡ reset_of n }
 {
     if (2 <= n) & (n <= 16) {
-        Start::Ready(State {
+        Ok(State {
             n,
             g: 0,
             m: 0,
@@ -25,7 +24,7 @@ pub fn reset(n: u32) -> Start
             count: 0,
         })
     } else {
-        Start::Refused(Refusal::Masters)
+        Err(Refusal::Masters)
     }
 }
 
@@ -56,8 +55,8 @@ pub fn well_formed(s: State) -> bool
 }
 
 // A cycle of a well-formed state below the count limit, whose inputs are valid for n.
-fn accept(s: State, x: Inputs) -> Answer
-    requires { WellFormed s × (s.count < most_cycles) × (inputs_check s.n x ≡ Good) }
+fn accept(s: State, x: Inputs) -> Result<(State, Outputs), (Refusal, State)>
+    requires { WellFormed s × (s.count < most_cycles) × (inputs_check s.n x ≡ Ok tt) }
     ensures { result ≡ step_of s x }
 {
     let n = s.n;
@@ -66,29 +65,29 @@ fn accept(s: State, x: Inputs) -> Answer
     let after = went.bus;
     let o = went.outputs;
     let t = buses::state(n, after);
-    Answer::Next(t, o)
+    Ok((t, o))
 }
 
 // A cycle of a well-formed state below the count limit: 4, 5, 6.
-fn take(s: State, x: Inputs) -> Answer
+fn take(s: State, x: Inputs) -> Result<(State, Outputs), (Refusal, State)>
     requires { WellFormed s × (s.count < most_cycles) }
     ensures { result ≡ step_of s x }
 {
     match signals::check_inputs(s.n, x) {
-        Check::Good => accept(s, x),
-        Check::Bad(r) => Answer::Refused(r, s),
+        Ok(()) => accept(s, x),
+        Err(r) => Err((r, s)),
     }
 }
 
 // One cycle: the state after it and what the arbiter drove, or the first refusal of 10, 8, 4, 5, 6 with the state as it came.
-pub fn step(s: State, x: Inputs) -> Answer
+pub fn step(s: State, x: Inputs) -> Result<(State, Outputs), (Refusal, State)>
     ensures { result ≡ step_of s x }
 {
     if !well_formed(s) {
-        return Answer::Refused(Refusal::State, s);
+        return Err((Refusal::State, s));
     }
     if 1000000 <= s.count {
-        return Answer::Refused(Refusal::Full, s);
+        return Err((Refusal::Full, s));
     }
     take(s, x)
 }

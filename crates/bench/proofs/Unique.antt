@@ -12,7 +12,7 @@ use denote.MutBor.{MutBor}
 use Rattle.rules.specs.declared.State.{State}
 use Rattle.rules.specs.declared.Inputs.{Inputs}
 use Rattle.rules.specs.Step.{step_of}
-use Rattle.bench.specs.declared.Moved.{Moved}
+use Rattle.bench.specs.Results.{Moved}
 use Rattle.bench.specs.Bench.{said_of, held_after}
 use Rattle.bench.specs.contracts.advance as advance
 

@@ -3,6 +3,7 @@
 --   some_winner == where some bit is high, the walk ends at a master
 --   decided     == DECIDE is high exactly where neither the lock nor the burst holds the bus
 --   chooses_zero, chooses_winner, chooses_none == the three ends of the choice
+use Rattle.std.specs.Prelude.{None, Some}
 use Prim.Native.Nat.{ℕ, zero, suc, ◌^◌, ◌≤◌, ◌<◌}
 use mathlib.Core.Path.{◌≡◌, refl, sym, ◌∙◌, ap}
 use mathlib.Core.Bool.{Bool, true, false, not, ◌&&◌, cond, true≢false}
@@ -10,8 +11,7 @@ use native.Mathlib.Omega.{arith}
 use borrow.Author.Tests.{eq-eqb, ne_eqb, eqb-false}
 use lib.Dec.{eqb}
 use lib.Bits.{bit_and, bit_or}
-use Rattle.rules.specs.declared.Found.{Found}
-use Rattle.rules.specs.declared.Found.TheVariants.{At, Nothing}
+use Rattle.rules.specs.Results.{Found}
 use Rattle.rules.specs.declared.Phase.{Phase}
 use Rattle.rules.specs.declared.Phase.TheVariants.{Fresh}
 use Rattle.rules.specs.declared.Inputs.{Inputs}
@@ -28,7 +28,7 @@ use Rattle.signals.proofs.Flags.{as_flag, both, high, small, low_number}
 use Rattle.buses.specs.declared.Bus.{Bus}
 use Rattle.buses.specs.Buses.{phase_from, state_from, low_after, decide_of, Runs, Chooses}
 
-pub some_winner : (n g m : ℕ) (f : Found) → m < 2 ^ n → eqb m 0 ≡ false → f ≡ winner n g m → f ≡ Nothing → ⊥
+pub some_winner : (n g m : ℕ) (f : Found) → m < 2 ^ n → eqb m 0 ≡ false → f ≡ winner n g m → f ≡ None → ⊥
 some_winner n g m f below some walk none =
     let r = some_is_high n m below (eqb-false m 0 some) in
     let v = winner_won n g m r.at r.there r.is_high in
@@ -77,7 +77,7 @@ module _ (n : ℕ) (b : Bus) (x : Inputs) where
           decides = record { is = refl };
         })
 
-    pub chooses_winner : (w : ℕ) → held ≡ 0 → (x.hbusreq ≡ 0 → ⊥) → winner n b.g x.hbusreq ≡ At w → Chooses n b x (eqb held 0) w 1 1
+    pub chooses_winner : (w : ℕ) → held ≡ 0 → (x.hbusreq ≡ 0 → ⊥) → winner n b.g x.hbusreq ≡ Some w → Chooses n b x (eqb held 0) w 1 1
     unfolding chosen granted_after
     chooses_winner w e some f =
         rw (eq-eqb held 0 e)

@@ -6,6 +6,7 @@
 --   decide_moves, wait_moves == a cycle with GRANTED low, and one with GRANTED high
 --   shows      == what is shown, from its numbers
 --   stepped    == the step's answer, from the bus that follows and what is shown
+use Rattle.std.specs.Prelude.{Ok}
 use Prim.Native.Nat.{ℕ, ◌+◌, ◌-◌, ◌≤◌, ◌<◌}
 use mathlib.Core.Path.{◌≡◌, refl, ap}
 use mathlib.Core.Bool.{Bool, true, false, not, cond}
@@ -13,12 +14,10 @@ use native.Mathlib.Omega.{arith}
 use borrow.Author.Tests.{lt-leb, ltb-false}
 use lib.Dec.{eqb, ltb}
 use lib.Bits.{bit_and, bit_or}
-use Rattle.rules.specs.declared.Check.TheVariants.{Good}
 use Rattle.rules.specs.declared.Phase.TheVariants.{Fresh}
 use Rattle.rules.specs.declared.State.{State}
 use Rattle.rules.specs.declared.Inputs.{Inputs}
 use Rattle.rules.specs.declared.Outputs.{Outputs}
-use Rattle.rules.specs.declared.Answer.TheVariants.{Next}
 use Rattle.rules.specs.Codes.{most_cycles, ready}
 use Rattle.rules.specs.Masks.{high as bit_of, single}
 use Rattle.rules.specs.Valid.{inputs_too_large, inputs_not_built, inputs_absent, inputs_check}
@@ -44,14 +43,14 @@ same_state s lock granted k sound l g e =
     rw (l, g, e)
     (rw (flag_again s.hmastlock, flag_again s.granted, p.is), record { phase = p.small; lock = flag_most s.hmastlock; granted = flag_most s.granted })
 
-ready_small : (n : ℕ) (x : Inputs) → inputs_check n x ≡ Good → x.hready ≤ 1
+ready_small : (n : ℕ) (x : Inputs) → inputs_check n x ≡ Ok tt → x.hready ≤ 1
 unfolding inputs_check inputs_too_large
 ready_small n x e =
     let p = (passed (inputs_too_large x) (inputs_not_built x) (inputs_absent n x) false e).value in
     let q : ltb 1 x.hready ≡ false = search (or_left, or_right) depth 10 in
     ltb-false 1 x.hready q
 
-pub due : (n : ℕ) (b : Bus) (x : Inputs) → WellFormed (state_from n b) → Fit b → b.count < most_cycles → inputs_check n x ≡ Good → Due n b x
+pub due : (n : ℕ) (b : Bus) (x : Inputs) → WellFormed (state_from n b) → Fit b → b.count < most_cycles → inputs_check n x ≡ Ok tt → Due n b x
 due n b x sound fit room good =
     record {
       many = sound.many;
@@ -128,10 +127,10 @@ module _ (n : ℕ) (b : Bus) (x : Inputs) where
 
   -- b' is the bus that follows and o what is shown
   pub stepped : (decide : ℕ) (b' : Bus) (o : Outputs)
-      → WellFormed (state_from n b) → b.count < most_cycles → inputs_check n x ≡ Good
+      → WellFormed (state_from n b) → b.count < most_cycles → inputs_check n x ≡ Ok tt
       → Moves n b x decide b'
       → o ≡ shown (state_from n b) (seen (state_from n b) x) (decide_of n b x)
-      → step_of (state_from n b) x ≡ Next (state_from n b') o
+      → step_of (state_from n b) x ≡ Ok (state_from n b', o)
   unfolding step_of accepted
   stepped decide b' o sound room good moves shows =
       simp (test_of (state_from n b) sound, lt-leb 1000000 b.count room, good, moves.grant) (cc)

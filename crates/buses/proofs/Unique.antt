@@ -8,6 +8,7 @@ use mathlib.Core.Path.{◌≡◌, refl, sym, ◌∙◌, ap}
 use native.Mathlib.Omega.{arith}
 use lib.Dec.{eqb}
 use Rattle.rules.specs.declared.State.{State}
+use Rattle.rules.proofs.Parts.{ok_parts}
 use Rattle.rules.specs.declared.Inputs.{Inputs}
 use Rattle.rules.specs.Step.{flag_of}
 use Rattle.signals.proofs.Flags.{as_flag}
@@ -53,6 +54,5 @@ state_unique n b s s' p q = p ∙ sym q
 pub advance_unique : (n : ℕ) (b : Bus) (x : Inputs) (r r' : Went)
     → advance.Post tt (n, (b, (x, tt))) r (n, (b, (x, tt))) → advance.Post tt (n, (b, (x, tt))) r' (n, (b, (x, tt))) → r ≡ r'
 advance_unique n b x r r' p q =
-    let s : state_from n r.bus ≡ state_from n r'.bus = cc (p.0, q.0) in
-    let o : r.outputs ≡ r'.outputs = cc (p.0, q.0) in
-    rw (same_bus n r.bus r'.bus p.1 q.1 s, o)
+    let same = ok_parts (sym p.0 ∙ q.0) in
+    rw (same_bus n r.bus r'.bus p.1 q.1 same.0, same.1)

@@ -12,8 +12,7 @@
 --   Runs n b x busy k == k is the number of that phase, and busy is 0 exactly where the owner's burst lets a decision fall
 --   Chooses n b x d g granted decide == g, GRANTED and DECIDE as numbers, where d says whether a decision falls
 --   Moves n b x decide r == r is the bus after the cycle, and decide is DECIDE in it
-use Rattle.std.specs.Prelude.{ℕ, ◌^◌, ◌≤◌, ◌<◌, ◌≡◌, Bool, not, ◌&&◌, cond, eqb, leb}
-use Rattle.rules.specs.declared.Found.TheVariants.{At}
+use Rattle.std.specs.Prelude.{ℕ, ◌^◌, ◌≤◌, ◌<◌, ◌≡◌, Bool, not, ◌&&◌, cond, eqb, leb, Some}
 use Rattle.rules.specs.declared.Phase.{Phase}
 use Rattle.rules.specs.declared.Phase.TheVariants.{Fresh, Fixed, Open, Done}
 use Rattle.rules.specs.declared.State.{State}
@@ -78,12 +77,12 @@ pub record Runs (n : ℕ) (b : Bus) (x : Inputs) (busy k : ℕ) : Type 0 where
   pub free : (settled (low_after n b x) && not (opens_later (state_from n b) (seen (state_from n b) x))) ≡ eqb busy 0
 
 pub record Chooses (n : ℕ) (b : Bus) (x : Inputs) (d : Bool) (g granted decide : ℕ) : Type 0 where
-  pub grant : chosen (state_from n b) x d ≡ At g
+  pub grant : chosen (state_from n b) x d ≡ Some g
   pub grants : Stands granted (granted_after (state_from n b) x d)
   pub decides : Stands decide d
 
 pub record Moves (n : ℕ) (b : Bus) (x : Inputs) (decide : ℕ) (r : Bus) : Type 0 where
   pub decides : Stands decide (decide_of n b x)
-  pub grant : chosen (state_from n b) x (decide_of n b x) ≡ At r.g
+  pub grant : chosen (state_from n b) x (decide_of n b x) ≡ Some r.g
   pub after : state_from n r ≡ moved (state_from n b) x (decide_of n b x) r.g
   pub fit : Fit r

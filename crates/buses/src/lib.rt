@@ -5,9 +5,6 @@ mod course;
 mod walk;
 
 ghost use Rattle.std.specs.Prelude.{◌≡◌, false, ◌≤◌, ◌<◌, ◌^◌, eqb};
-ghost use Rattle.rules.specs.declared.Check.TheVariants.{Good};
-ghost use Rattle.rules.specs.declared.Answer.TheVariants.{Next};
-ghost use Rattle.rules.specs.declared.Found.TheVariants.{At};
 ghost use Rattle.rules.specs.Codes.{most_cycles};
 ghost use Rattle.rules.specs.Masks.{high, single};
 ghost use Rattle.rules.specs.Valid.{inputs_check};
@@ -18,7 +15,7 @@ ghost use Rattle.rules.specs.Step.{flag_of, shown, step_of};
 ghost use Rattle.signals.specs.Flags.{Stands};
 ghost use Rattle.buses.specs.Buses.{phase_from, phase_number, state_from, Fit, Due, decide_of, Chooses, Moves};
 
-use rules::{Found, Inputs, Outputs, Phase, State};
+use rules::{Inputs, Outputs, Phase, State};
 
 // A state but for n. A flag is 0 or 1, and the phase is one number: 0 Done, 1 to 3 Fixed with so many ready cycles to come, 4 Open, 5 Fresh.
 #[derive(Clone, Copy)]
@@ -110,11 +107,11 @@ fn mask(i: u32) -> u32
 // The grant after a decision that some master asked for.
 fn winner(n: u32, g: u32, m: u32) -> u32
     requires { (n ≤ 16) × (g < n) × (m < 2 ^ n) × (eqb m 0 ≡ false) }
-    ensures { winner_of n g m ≡ At result }
+    ensures { winner_of n g m ≡ Some result }
 {
     match walk::winner(n, g, m) {
-        Found::At(i) => i,
-        Found::Nothing => 0,
+        Some(i) => i,
+        None => 0,
     }
 }
 
@@ -238,8 +235,8 @@ pub struct Went {
 
 // One cycle that a step takes.
 pub fn advance(n: u32, b: Bus, x: Inputs) -> Went
-    requires { WellFormed (state_from n b) × Fit b × (b.count < most_cycles) × (inputs_check n x ≡ Good) }
-    ensures { (step_of (state_from n b) x ≡ Next (state_from n result.bus) result.outputs) × Fit result.bus }
+    requires { WellFormed (state_from n b) × Fit b × (b.count < most_cycles) × (inputs_check n x ≡ Ok tt) }
+    ensures { (step_of (state_from n b) x ≡ Ok (state_from n result.bus, result.outputs)) × Fit result.bus }
 {
     let request = bit(x.hbusreq, b.m);
     let turn = cycle(n, b, x, request);

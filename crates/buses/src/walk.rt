@@ -3,7 +3,6 @@ ghost use Rattle.std.specs.Prelude.{◌≡◌, ◌<◌, ◌≤◌, ◌^◌};
 ghost use Rattle.rules.specs.Winner.{next as next_master, winner as winner_of};
 
 use crate::bit;
-use rules::Found;
 
 // The master after i, with 0 after n - 1.
 fn next(n: u32, i: u32) -> u32
@@ -14,7 +13,7 @@ fn next(n: u32, i: u32) -> u32
 }
 
 // The first requester of the mask m met walking g+1, g+2, .. around and ending at g itself.
-pub fn winner(n: u32, g: u32, m: u32) -> Found
+pub fn winner(n: u32, g: u32, m: u32) -> Option<u32>
     requires { (n ≤ 16) × (g < n) × (m < 2 ^ n) }
     ensures { result ≡ winner_of n g m }
 {
@@ -22,10 +21,10 @@ pub fn winner(n: u32, g: u32, m: u32) -> Found
     let mut i: u32 = next(n, g);
     loop {
         if left == 0 {
-            break Found::Nothing;
+            break None;
         }
         if bit(m, i) == 1 {
-            break Found::At(i);
+            break Some(i);
         }
         left = left - 1;
         i = next(n, i);

@@ -3,6 +3,7 @@
 --   fits_of  == a cycle that is valid for n is small enough
 --   low_of   == lost counts that pass their test are small
 --   ready_of == the judge may take the cycle
+use Rattle.std.specs.Prelude.{Ok}
 use Prim.Native.Nat.{ℕ, ◌≤◌, ◌<◌}
 use mathlib.Core.Path.{◌≡◌}
 use mathlib.Core.Bool.{true, false, not, ◌&&◌}
@@ -11,7 +12,6 @@ use native.Mathlib.Omega.{arith}
 use borrow.Author.Tests.{ltb-true, ltb-false, leb-true, leb-false, not-true}
 use lib.Dec.{eqb, ltb, leb}
 use lib.ListN.{get_or}
-use Rattle.rules.specs.declared.Check.TheVariants.{Good}
 use Rattle.rules.specs.declared.Cycle.{Cycle}
 use Rattle.rules.specs.Codes.{most_cycles}
 use Rattle.rules.specs.Valid.{inputs_too_large, outputs_too_large, cycle_check}
@@ -25,7 +25,7 @@ use Rattle.rulebook.proofs.WellFormed.{good_is}
 use Rattle.keeping.specs.Room.{Low}
 use Rattle.charging.specs.Ready.{Fits, Ready}
 
-pub fits_of : (n : ℕ) (c : Cycle) → n ≤ 16 → cycle_check n c ≡ Good → Fits c
+pub fits_of : (n : ℕ) (c : Cycle) → n ≤ 16 → cycle_check n c ≡ Ok tt → Fits c
 unfolding inputs_too_large outputs_too_large
 fits_of n c few e =
     let p = cycle_passed n c e in
@@ -47,7 +47,7 @@ low_of n l few e =
           omega arith;
     }
 
-pub ready_of : (j : Judge) (c : Cycle) → well_formed j ≡ true → j.count < most_cycles → cycle_check j.n c ≡ Good → Ready j c
+pub ready_of : (j : Judge) (c : Cycle) → well_formed j ≡ true → j.count < most_cycles → cycle_check j.n c ≡ Ok tt → Ready j c
 unfolding well_formed
 ready_of j c e room good =
     let many : leb j.n 16 ≡ true = search (and_left, and_right) depth 12 in

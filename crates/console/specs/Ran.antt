@@ -4,10 +4,9 @@
 --   Turned ..             == one read: the program went on, or it ends
 --   Ran .. s e            == from the state s on the program went on any number of times, and then ended
 --   Begins .. h e         == after the header h the program ends as e says
-use Rattle.std.specs.Prelude.{ℕ, ◌≤◌, ◌≡◌, Bool, true, false, List, [], ◌++◌, length}
+use Rattle.std.specs.Prelude.{ℕ, ◌≤◌, ◌≡◌, Bool, true, false, List, [], ◌++◌, length, Err, Ok}
 use Rattle.rules.specs.declared.Refusal.{Refusal}
-use Rattle.formats.specs.declared.HeaderRead.{HeaderRead}
-use Rattle.formats.specs.declared.HeaderRead.TheVariants as head
+use Rattle.formats.specs.Results.{HeaderRead}
 use Rattle.streams.specs.Streams.{Turn, stretch}
 use Rattle.console.specs.declared.Ending.{Ending}
 use Rattle.console.specs.declared.Ending.TheVariants.{Refused, Unread, Unwritten}
@@ -34,6 +33,6 @@ module _ {S : Type 0} (breaches : S → ℕ) (turn : S → List ℕ → Turn S) 
 
   -- the header's own output may fail too
   pub data Begins (Cut : List ℕ → List ℕ → Type 0) (start : ℕ → S) (e : Ending) : HeaderRead → Type 0 where
-    begun : {n next : ℕ} → Ran Cut (start n) e → Begins Cut start e (head.Header n next)
-    refused : {r : Refusal} → e ≡ Refused → Begins Cut start e (head.Refused r)
+    begun : {n next : ℕ} → Ran Cut (start n) e → Begins Cut start e (Ok (n, next))
+    refused : {r : Refusal} → e ≡ Refused → Begins Cut start e (Err r)
     unwritten : {h : HeaderRead} → e ≡ Unwritten → Begins Cut start e h

@@ -11,7 +11,7 @@ use borrow.Author.Tests.{le-ltb}
 use lib.ListN.{length, length-append}
 use Rattle.rules.specs.State.{masters_ok}
 use Rattle.rules.proofs.Choice.{order}
-use Rattle.formats.specs.declared.Written.{Written}
+use Rattle.formats.specs.Results.{Written}
 use Rattle.formats.specs.Digits.{decimal_before, decimal}
 use Rattle.formats.specs.Texts.{bytes}
 use Rattle.formats.proofs.Decimal.{one_digit_lem, two_digits_lem}

@@ -3,6 +3,7 @@
 --   drawn_on, drawn_full, read_none, read_refused == the four ends of a line
 --   dump_program_lem    == it goes by lines, none of which writes more bytes than a step, and the position stays well formed
 --   block_stopped, block_used == the two ends of a block
+use Rattle.std.specs.Prelude.{Err, None, Ok, Some}
 use Prim.Native.Nat.{ℕ, ◌≤◌, ◌<◌}
 use mathlib.Core.Path.{◌≡◌, refl, sym, ap, ◌∙◌}
 use mathlib.Core.Bool.{true, false}
@@ -16,8 +17,7 @@ use Rattle.rules.specs.declared.Refusal.TheVariants as refusal
 use Rattle.rules.specs.declared.Cycle.{Cycle}
 use Rattle.rules.specs.Codes.{most_cycles}
 use Rattle.rules.proofs.Choice.{either}
-use Rattle.formats.specs.declared.TraceRead.{TraceRead}
-use Rattle.formats.specs.declared.TraceRead.TheVariants.{Line, NoMore, Refused}
+use Rattle.formats.specs.Results.{TraceRead}
 use Rattle.formats.specs.Lines.{read_trace_of}
 use Rattle.formats.specs.Report.{refused_line}
 use Rattle.streams.specs.declared.Flow.TheVariants.{GoesOn, Stopped}
@@ -41,47 +41,47 @@ module _ (p : Position) (rest : List ℕ) (a : TraceRead) (e : a ≡ read_trace_
   unfolding dump_turn
   found r f = ap (λ q. drawn q p) (sym e ∙ f)
 
-  pub drawn_on : (c : Cycle) (next : ℕ) → a ≡ Line c next → p.count < most_cycles → Put (dump_step p.before p.count c) buffer k out
+  pub drawn_on : (c : Cycle) (next : ℕ) → a ≡ Ok (Some (c, next)) → p.count < most_cycles → Put (dump_step p.before p.count c) buffer k out
       → Lined p (dump_turn p rest) buffer k true (after p c 1) out
   drawn_on c next f h put =
       went p (dump_turn p rest) (dump_step p.before p.count c) buffer k out put (after p c 1) next
-      (found (Line c next) f ∙ rw (lt-leb most_cycles p.count h))
+      (found (Ok (Some (c, next))) f ∙ rw (lt-leb most_cycles p.count h))
 
-  pub drawn_full : (c : Cycle) (next : ℕ) → a ≡ Line c next → most_cycles ≤ p.count → Put (refused_line p.line refusal.Full) buffer k out
+  pub drawn_full : (c : Cycle) (next : ℕ) → a ≡ Ok (Some (c, next)) → most_cycles ≤ p.count → Put (refused_line p.line refusal.Full) buffer k out
       → Lined p (dump_turn p rest) buffer k false p out
   drawn_full c next f h put =
       ended p (dump_turn p rest) (refused_line p.line refusal.Full) buffer k out put
-      (found (Line c next) f ∙ rw (le-leb most_cycles p.count h))
+      (found (Ok (Some (c, next))) f ∙ rw (le-leb most_cycles p.count h))
 
-  pub read_refused : (r : Refusal) → a ≡ Refused r → Put (refused_line p.line r) buffer k out → Lined p (dump_turn p rest) buffer k false p out
-  read_refused r f put = ended p (dump_turn p rest) (refused_line p.line r) buffer k out put (found (Refused r) f)
+  pub read_refused : (r : Refusal) → a ≡ Err r → Put (refused_line p.line r) buffer k out → Lined p (dump_turn p rest) buffer k false p out
+  read_refused r f put = ended p (dump_turn p rest) (refused_line p.line r) buffer k out put (found (Err r) f)
 
-pub read_none : (p : Position) (rest : List ℕ) (a : TraceRead) (buffer : List ℕ) → a ≡ read_trace_of p.n rest 0 → a ≡ NoMore
+pub read_none : (p : Position) (rest : List ℕ) (a : TraceRead) (buffer : List ℕ) → a ≡ read_trace_of p.n rest 0 → a ≡ Ok None
     → Lined p (dump_turn p rest) buffer 0 false p buffer
 read_none p rest a buffer e f =
-    ended p (dump_turn p rest) [] buffer 0 buffer (record { size = refl; puts = refl }) (found p rest a e buffer 0 buffer NoMore f)
+    ended p (dump_turn p rest) [] buffer 0 buffer (record { size = refl; puts = refl }) (found p rest a e buffer 0 buffer (Ok None) f)
 
 module _ (p : Position) (f : Facts p) where
   few_refused : (r : Refusal) → length (refused_line p.line r) ≤ 104
   few_refused r = omega (arith, refused_size p.line r (omega (arith, f.lines, f.room)))
 
   few_drawn : (r : TraceRead) → length (bytes_in (drawn r p)) ≤ 104
-  few_drawn (Line c next) =
+  few_drawn (Ok (Some (c, next))) =
       either (leb most_cycles p.count)
       (λ e. rw e (few_refused refusal.Full))
       (λ e. rw e (steps_are_short p.before p.count c (leb-false most_cycles p.count e)))
-  few_drawn NoMore = omega arith
-  few_drawn (Refused r) = few_refused r
+  few_drawn (Ok None) = omega arith
+  few_drawn (Err r) = few_refused r
 
   stays_drawn : (r : TraceRead) → Formed (state_after p (drawn r p))
-  stays_drawn (Line c next) =
+  stays_drawn (Ok (Some (c, next))) =
       either (leb most_cycles p.count)
       (λ e. rw e (test_of p f))
       (λ e.
       let room = leb-false most_cycles p.count e in
       rw e (test_of (after p c 1) (record { masters = f.masters; room = omega arith; lines = omega (arith, f.lines) })))
-  stays_drawn NoMore = test_of p f
-  stays_drawn (Refused r) = test_of p f
+  stays_drawn (Ok None) = test_of p f
+  stays_drawn (Err r) = test_of p f
 
 pub dump_program_lem : Program dump_turn 31 104 Formed
 unfolding dump_turn

@@ -1,4 +1,5 @@
 -- What is promised of the program trace2vcd as it runs.
+use Rattle.std.specs.Prelude.{Err, Ok}
 use Prim.Native.Nat.{ℕ, suc}
 use mathlib.Core.Path.{◌≡◌, refl, ap, ◌∙◌}
 use mathlib.Core.List.{List, ◌++◌}
@@ -8,8 +9,7 @@ use lib.Dec.{ltb}
 use lib.ListN.{length, drop}
 use Rattle.rules.proofs.WellFormed.{masters_ok_lem}
 use Rattle.formats.specs.declared.Word.TheVariants.{Trace}
-use Rattle.formats.specs.declared.HeaderRead.{HeaderRead}
-use Rattle.formats.specs.declared.HeaderRead.TheVariants as head
+use Rattle.formats.specs.Results.{HeaderRead}
 use Rattle.formats.specs.Lines.{place, read_trace_of}
 use Rattle.formats.specs.Headers.{read_header_of}
 use Rattle.streams.specs.Streams.{written}
@@ -44,9 +44,9 @@ pub dump_as_run : DumpAsRun
 dump_as_run s blocks last rest whole = rw (head_near Trace s) (go (read_header_of Trace s) refl)
   where
     go : (h : HeaderRead) → read_header_of Trace s ≡ h → dump_program s ≡ dump_run (read_header_of Trace s) blocks last
-    go (head.Header n next) e =
+    go (Ok (n, next)) e =
         rw e (dump_in_blocks s n next blocks last e (ap (λ k. drop k s) (head_size_lem Trace s n next e) ∙ rest) whole)
-    go (head.Refused r) e = unfold dump_program in rw e
+    go (Err r) e = unfold dump_program in rw e
 
 pub dump_ends : DumpEnds
 unfolding written dump_turn read_trace_of place

@@ -1,6 +1,7 @@
 -- A step that was read: its time, its bytes, its lines, and its cycle.
 --
 --   found           == what is known of it
+use Rattle.std.specs.Prelude.{Ok, Some}
 use Prim.Native.Nat.{ℕ, ◌≤◌, ◌<◌}
 use mathlib.Core.Path.{◌≡◌, sym, ◌∙◌, ap}
 use mathlib.Core.Bool.{Bool, not, ◌||◌}
@@ -11,7 +12,6 @@ use lib.ListN.{length, take}
 use Rattle.rules.specs.declared.Cycle.{Cycle}
 use Rattle.rules.specs.Codes.{most_cycles}
 use Rattle.rules.proofs.Choice.{either}
-use Rattle.formats.specs.declared.TraceRead.TheVariants.{Line}
 use Rattle.formats.specs.Columns.{cycle_values}
 use Rattle.formats.specs.Promises.{ValidCycle}
 use Rattle.waves.specs.Steps.{dump_step}
@@ -37,7 +37,7 @@ few_changed all (v ∷ vs) (u ∷ us) =
     let more = few_changed all vs us in
     either (all || not (eqb u v)) (λ e. rw e (omega arith)) (λ e. rw e (omega arith))
 
-pub found : (n t : ℕ) (prev : Cycle) (s : List ℕ) (c : Cycle) (next : ℕ) → read_step_of n t prev s 0 ≡ Line c next → Found n t s c next
+pub found : (n t : ℕ) (prev : Cycle) (s : List ℕ) (c : Cycle) (next : ℕ) → read_step_of n t prev s 0 ≡ Ok (Some (c, next)) → Found n t s c next
 found n t prev s c next e =
     let r = read_step_writes n t prev s 0 c next e in
     let k = near_next n t prev s c next e in

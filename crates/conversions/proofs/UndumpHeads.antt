@@ -4,6 +4,7 @@
 --   undump_head_near     == the bytes that the program reads tell the header of the whole input
 --   undump_head_size_lem == and are those of the header, where it is accepted
 --   undump_head_good     == a header that is accepted has a good n
+use Rattle.std.specs.Prelude.{Err, Ok}
 use Prim.Native.Nat.{ℕ, zero, suc, ◌+◌, ◌-◌, ◌*◌, ◌≤◌, ◌<◌}
 use mathlib.Core.Path.{◌≡◌, refl, sym, ◌∙◌, ap}
 use mathlib.Core.Bool.{Bool, true, false, not, ◌&&◌, cond, true≢false}
@@ -14,11 +15,11 @@ use borrow.Author.Tests.{eqb-true, ne_eqb}
 use lib.Dec.{eqb}
 use lib.ListN.{length, get_or, take, drop}
 use lib.Seq.{get_or-take, get_or-drop}
+use Rattle.rules.proofs.Parts.{ok_parts}
 use Rattle.rules.specs.declared.Refusal.TheVariants as refusal
 use Rattle.rules.specs.State.{masters_ok}
 use Rattle.rules.proofs.Choice.{either, and_left, and_right}
-use Rattle.formats.specs.declared.HeaderRead.{HeaderRead}
-use Rattle.formats.specs.declared.HeaderRead.TheVariants.{Header, Refused}
+use Rattle.formats.specs.Results.{HeaderRead}
 use Rattle.formats.specs.Digits.{lf, decimal_before}
 use Rattle.formats.specs.Texts.{bytes}
 use Rattle.formats.specs.Headers.{is_decimal, ranged}
@@ -76,11 +77,11 @@ counted a b one two =
     cond (is_decimal a && one) (ranged (a - 48) (17 + 1 + length closing))
     (cond (is_decimal a && not (eqb a 48) && is_decimal b && two)
     (ranged ((a - 48) * 10 + (b - 48)) (17 + 2 + length closing))
-    (Refused refusal.Dump))
+    (Err refusal.Dump))
 
 read_is : (u : List ℕ)
     → read_dump_header_of u
-    ≡ cond (begins u opening) (counted (get_or u 17 0) (get_or u 18 0) (begins (drop 18 u) closing) (begins (drop 19 u) closing)) (Refused refusal.Dump)
+    ≡ cond (begins u opening) (counted (get_or u 17 0) (get_or u 18 0) (begins (drop 18 u) closing) (begins (drop 19 u) closing)) (Err refusal.Dump)
 unfolding read_dump_header_of masters_in
 read_is u = rw opening_size
 
@@ -114,18 +115,18 @@ module _ (s : List ℕ) where
       (λ e. rw (size_more e) (taken 398 (omega arith) (begins_near 19 398 s closing (omega (arith, closing_size)))))
 
 -- what is accepted is in range, and ends where its digits say
-ranged_good : (n k m next : ℕ) → ranged n k ≡ Header m next → (masters_ok m ≡ true) × (next ≡ k)
+ranged_good : (n k m next : ℕ) → ranged n k ≡ Ok (m, next) → (masters_ok m ≡ true) × (next ≡ k)
 ranged_good n k m next e =
     either (masters_ok n)
-    (λ q. let f = rw q at e in let same : n ≡ m = cc in (rw same at q, cc))
+    (λ q. let f = ok_parts (rw q at e) in (rw f.0 at q, sym f.1))
     (λ q. let f = rw q at e in let z : ◌≡◌ {A = ℕ} 0 1 = cc in absurd (omega arith))
 
-counted_good : (a b : ℕ) (one two : Bool) (n next : ℕ) → counted a b one two ≡ Header n next
+counted_good : (a b : ℕ) (one two : Bool) (n next : ℕ) → counted a b one two ≡ Ok (n, next)
     → (masters_ok n ≡ true) × (((one ≡ true) × (next ≡ 397)) ⊎ ((two ≡ true) × (next ≡ 398)))
 counted_good a b one two n next e = go (is_decimal a) one (not (eqb a 48)) (is_decimal b) two e
   where
     go : (x one y z two : Bool)
-        → cond (x && one) (ranged (a - 48) (17 + 1 + length closing)) (cond (x && y && z && two) (ranged ((a - 48) * 10 + (b - 48)) (17 + 2 + length closing)) (Refused refusal.Dump)) ≡ Header n next
+        → cond (x && one) (ranged (a - 48) (17 + 1 + length closing)) (cond (x && y && z && two) (ranged ((a - 48) * 10 + (b - 48)) (17 + 2 + length closing)) (Err refusal.Dump)) ≡ Ok (n, next)
         → (masters_ok n ≡ true) × (((one ≡ true) × (next ≡ 397)) ⊎ ((two ≡ true) × (next ≡ 398)))
     go true true y z two f =
         let g = ranged_good (a - 48) (17 + 1 + length closing) n next f in
@@ -138,7 +139,7 @@ counted_good a b one two n next e = go (is_decimal a) one (not (eqb a 48)) (is_d
     go true false false z two f = let z : ◌≡◌ {A = ℕ} 0 1 = cc in absurd (omega arith)
     go false one y z two f = let z : ◌≡◌ {A = ℕ} 0 1 = cc in absurd (omega arith)
 
-module _ (s : List ℕ) (n next : ℕ) (e : read_dump_header_of s ≡ Header n next) where
+module _ (s : List ℕ) (n next : ℕ) (e : read_dump_header_of s ≡ Ok (n, next)) where
   accepted : (masters_ok n ≡ true) × (((begins (drop 18 s) closing ≡ true) × (next ≡ 397)) ⊎ ((begins (drop 19 s) closing ≡ true) × (next ≡ 398)))
   accepted =
       either (begins s opening)

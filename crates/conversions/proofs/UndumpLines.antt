@@ -5,6 +5,7 @@
 --   undump_program_lem == no step writes more bytes than a trace line, and the position stays well formed
 --   step_on, step_refused, step_none == the three ends of a step
 --   block_stopped, block_used == the two ends of a block
+use Rattle.std.specs.Prelude.{Err, None, Ok, Some}
 use Prim.Native.Nat.{ℕ, ◌≤◌}
 use mathlib.Core.Path.{◌≡◌, refl, ap, ◌∙◌}
 use mathlib.Core.Bool.{true, false}
@@ -13,8 +14,7 @@ use native.Mathlib.Omega.{arith}
 use lib.ListN.{length, take}
 use Rattle.rules.specs.declared.Refusal.{Refusal}
 use Rattle.rules.specs.declared.Cycle.{Cycle}
-use Rattle.formats.specs.declared.TraceRead.{TraceRead}
-use Rattle.formats.specs.declared.TraceRead.TheVariants.{Line, NoMore, Refused}
+use Rattle.formats.specs.Results.{TraceRead}
 use Rattle.formats.specs.Lines.{trace_line}
 use Rattle.formats.specs.Report.{refused_line}
 use Rattle.streams.specs.declared.Flow.TheVariants.{GoesOn, Stopped}
@@ -46,17 +46,17 @@ undump_counts p rest bytes t k e =
     (λ c q i. let f = found p.n p.count p.before rest c k q in rw i (refl, omega (arith, f.time)))
 
 few_recalled : (p : Position) (rest : List ℕ) → Facts p → (r : TraceRead) → length (bytes_in (recalled r p rest)) ≤ 31
-few_recalled p rest f (Line c next) = omega arith
-few_recalled p rest f NoMore = omega arith
-few_recalled p rest f (Refused r) = refused_size p.line r (omega (arith, f.lines, f.room))
+few_recalled p rest f (Ok (Some (c, next))) = omega arith
+few_recalled p rest f (Ok None) = omega arith
+few_recalled p rest f (Err r) = refused_size p.line r (omega (arith, f.lines, f.room))
 
 stays_recalled : (p : Position) (rest : List ℕ) → Facts p → (r : TraceRead) → read_step_of p.n p.count p.before rest 0 ≡ r
     → Formed (state_after p (recalled r p rest))
-stays_recalled p rest f (Line c next) e =
+stays_recalled p rest f (Ok (Some (c, next))) e =
     let g = found p.n p.count p.before rest c next e in
     test_of (after p c (lines_in (take next rest))) (record { masters = f.masters; room = omega (arith, g.time); lines = omega (arith, f.lines, g.lines) })
-stays_recalled p rest f NoMore e = test_of p f
-stays_recalled p rest f (Refused r) e = test_of p f
+stays_recalled p rest f (Ok None) e = test_of p f
+stays_recalled p rest f (Err r) e = test_of p f
 
 pub undump_program_lem : Program undump_turn 3 31 Formed
 unfolding undump_turn
@@ -74,18 +74,18 @@ module _ (p : Position) (rest : List ℕ) where
   turn_is r e = ap (λ q. recalled q p rest) e
 
   pub step_on : (c : Cycle) (next lines : ℕ) (buffer : List ℕ) (k : ℕ) (out : List ℕ)
-      → read_step_of p.n p.count p.before rest 0 ≡ Line c next → lines_in (take next rest) ≡ lines → Put (trace_line c) buffer k out
+      → read_step_of p.n p.count p.before rest 0 ≡ Ok (Some (c, next)) → lines_in (take next rest) ≡ lines → Put (trace_line c) buffer k out
       → Lined p (undump_turn p rest) buffer k true (after p c lines) out × (taken_by (undump_turn p rest) ≡ next)
   step_on c next lines buffer k out e l put =
-      let is : undump_turn p rest ≡ goes (trace_line c) (after p c lines) next = turn_is (Line c next) e ∙ ap (λ i. goes (trace_line c) (after p c i) next) l in
+      let is : undump_turn p rest ≡ goes (trace_line c) (after p c lines) next = turn_is (Ok (Some (c, next))) e ∙ ap (λ i. goes (trace_line c) (after p c i) next) l in
       (went p (undump_turn p rest) (trace_line c) buffer k out put (after p c lines) next is, ap taken_by is)
 
-  pub step_refused : (r : Refusal) (buffer : List ℕ) (k : ℕ) (out : List ℕ) → read_step_of p.n p.count p.before rest 0 ≡ Refused r
+  pub step_refused : (r : Refusal) (buffer : List ℕ) (k : ℕ) (out : List ℕ) → read_step_of p.n p.count p.before rest 0 ≡ Err r
       → Put (refused_line p.line r) buffer k out → Lined p (undump_turn p rest) buffer k false p out
-  step_refused r buffer k out e put = ended p (undump_turn p rest) (refused_line p.line r) buffer k out put (turn_is (Refused r) e)
+  step_refused r buffer k out e put = ended p (undump_turn p rest) (refused_line p.line r) buffer k out put (turn_is (Err r) e)
 
-  pub step_none : (buffer : List ℕ) → read_step_of p.n p.count p.before rest 0 ≡ NoMore → Lined p (undump_turn p rest) buffer 0 false p buffer
-  step_none buffer e = ended p (undump_turn p rest) [] buffer 0 buffer (record { size = refl; puts = refl }) (turn_is NoMore e)
+  pub step_none : (buffer : List ℕ) → read_step_of p.n p.count p.before rest 0 ≡ Ok None → Lined p (undump_turn p rest) buffer 0 false p buffer
+  step_none buffer e = ended p (undump_turn p rest) [] buffer 0 buffer (record { size = refl; puts = refl }) (turn_is (Ok None) e)
 
 module _ {p₀ : Position} {block out₀ : List ℕ} {p : Position} {out : List ℕ} {w : ℕ} where
   pub block_stopped : Ended undump_turn p₀ block out₀ done p out w

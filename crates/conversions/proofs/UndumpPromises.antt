@@ -1,4 +1,5 @@
 -- What is promised of the program vcd2trace as it runs.
+use Rattle.std.specs.Prelude.{Err, Ok}
 use Prim.Native.Nat.{ℕ, suc}
 use mathlib.Core.Path.{◌≡◌, refl, ap, ◌∙◌}
 use mathlib.Core.List.{List, ◌++◌}
@@ -8,8 +9,7 @@ use lib.Dec.{ltb}
 use lib.ListN.{length, drop}
 use Rattle.rules.proofs.WellFormed.{masters_ok_lem}
 use Rattle.formats.specs.declared.Word.TheVariants.{Trace}
-use Rattle.formats.specs.declared.HeaderRead.{HeaderRead}
-use Rattle.formats.specs.declared.HeaderRead.TheVariants as head
+use Rattle.formats.specs.Results.{HeaderRead}
 use Rattle.formats.specs.Headers.{header}
 use Rattle.streams.specs.Streams.{written}
 use Rattle.streams.specs.Blocks.{joined, in_blocks, AllCut}
@@ -30,7 +30,7 @@ use Rattle.conversions.proofs.Answers.{converted_taken, converted_on}
 use Rattle.conversions.proofs.UndumpHeads.{undump_head_near, undump_head_size_lem}
 use Rattle.conversions.proofs.UndumpLines.{undump_stepping, undump_cutting, undump_counts, undump_program_lem}
 
-undump_in_blocks : (s : List ℕ) (n next : ℕ) (blocks : List (List ℕ)) (last : List ℕ) → read_dump_header_of s ≡ head.Header n next
+undump_in_blocks : (s : List ℕ) (n next : ℕ) (blocks : List (List ℕ)) (last : List ℕ) → read_dump_header_of s ≡ Ok (n, next)
     → drop next s ≡ joined blocks last → AllCut BetweenSteps blocks last
     → undump_program s ≡ header Trace n ++ in_blocks undump_turn (start_at n first_step) blocks last
 unfolding undump_program
@@ -43,9 +43,9 @@ pub undump_as_run : UndumpAsRun
 undump_as_run s blocks last rest cuts = rw (undump_head_near s) (go (read_dump_header_of s) refl)
   where
     go : (h : HeaderRead) → read_dump_header_of s ≡ h → undump_program s ≡ undump_run (read_dump_header_of s) blocks last
-    go (head.Header n next) e =
+    go (Ok (n, next)) e =
         rw e (undump_in_blocks s n next blocks last e (ap (λ k. drop k s) (undump_head_size_lem s n next e) ∙ rest) cuts)
-    go (head.Refused r) e = unfold undump_program in rw e
+    go (Err r) e = unfold undump_program in rw e
 
 pub undump_stays_formed : UndumpStaysFormed
 undump_stays_formed = (

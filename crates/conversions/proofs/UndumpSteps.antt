@@ -5,6 +5,7 @@
 --   undump_next == a step has three bytes at least
 --   undump_near == it looks at no more than what stands before a cut
 --   undump_rest == and what it leaves is cut there too
+use Rattle.std.specs.Prelude.{Err, None, Ok, Some}
 use Prim.Native.Nat.{ℕ, ◌+◌, ◌≤◌, ◌<◌}
 use mathlib.Core.Path.{◌≡◌, refl, sym, ◌∙◌, ap}
 use mathlib.Core.Bool.{Bool, true, false, cond}
@@ -13,14 +14,13 @@ use native.Mathlib.Omega.{arith}
 use lib.Dec.{eqb, ltb}
 use lib.ListN.{length, get_or, take, drop, length-append, drop_of_length-le}
 use lib.Seq.{drop-nil, take-append-le, drop-append-le}
+use Rattle.rules.proofs.Parts.{line_parts}
 use Rattle.rules.specs.declared.Refusal.TheVariants as refusal
-use Rattle.rules.specs.declared.Check.{Check}
-use Rattle.rules.specs.declared.Check.TheVariants.{Good, Bad}
+use Rattle.rules.specs.Results.{Check}
 use Rattle.rules.specs.declared.Cycle.{Cycle}
 use Rattle.rules.specs.State.{masters_ok}
 use Rattle.rules.proofs.Choice.{order}
-use Rattle.formats.specs.declared.TraceRead.{TraceRead}
-use Rattle.formats.specs.declared.TraceRead.TheVariants.{Line, NoMore, Refused}
+use Rattle.formats.specs.Results.{TraceRead}
 use Rattle.formats.specs.Digits.{lf}
 use Rattle.formats.specs.Lines.{line_check, trace_line}
 use Rattle.streams.specs.Streams.{goes, stops}
@@ -44,26 +44,26 @@ no : {P : Type 0} → ◌≡◌ {A = ℕ} 0 1 → P
 no z = absurd (omega (arith, z))
 
 -- a step that was read has the bytes of its text
-text_in : (n t : ℕ) (prev : Cycle) (s : List ℕ) (next : ℕ) (c : Cycle) (k : ℕ) → step_in n t prev s next ≡ Line c k → k ≡ next
+text_in : (n t : ℕ) (prev : Cycle) (s : List ℕ) (next : ℕ) (c : Cycle) (k : ℕ) → step_in n t prev s next ≡ Ok (Some (c, k)) → k ≡ next
 unfolding step_in
 text_in n t prev s next c k =
     go (wrong_time t s) (full_time t s) (unknown_in s) (step_shaped t prev s) (line_check n (step_cycle t prev s))
   where
     go : (v w x y : Bool) (z : Check)
-        → cond v (Refused refusal.Time) (cond w (Refused refusal.Full) (cond x (Refused refusal.Variable) (cond y (step_checked z (step_cycle t prev s) next) (Refused refusal.Shape)))) ≡ Line c k
+        → cond v (Err refusal.Time) (cond w (Err refusal.Full) (cond x (Err refusal.Variable) (cond y (step_checked z (step_cycle t prev s) next) (Err refusal.Shape)))) ≡ Ok (Some (c, k))
         → k ≡ next
     go true w x y z e = no (cc)
     go false true x y z e = no (cc)
     go false false true y z e = no (cc)
-    go false false false true Good e = cc
-    go false false false true (Bad r) e = no (cc)
+    go false false false true (Ok _) e = sym (line_parts e).1
+    go false false false true (Err r) e = no (cc)
     go false false false false z e = no (cc)
 
-line_size_lem : (n t : ℕ) (prev : Cycle) (s : List ℕ) (c : Cycle) (k : ℕ) → read_step_of n t prev s 0 ≡ Line c k → k ≡ length (step_text s)
+line_size_lem : (n t : ℕ) (prev : Cycle) (s : List ℕ) (c : Cycle) (k : ℕ) → read_step_of n t prev s 0 ≡ Ok (Some (c, k)) → k ≡ length (step_text s)
 unfolding read_step_of
 line_size_lem n t prev s c k = go (masters_ok n) (ltb (length s) 0) (eqb 0 (length s))
   where
-    go : (x y z : Bool) → cond x (cond y (Refused refusal.Shape) (cond z NoMore (step_in n t prev (step_text s) (0 + length (step_text s))))) (Refused refusal.Masters) ≡ Line c k
+    go : (x y z : Bool) → cond x (cond y (Err refusal.Shape) (cond z (Ok None) (step_in n t prev (step_text s) (0 + length (step_text s))))) (Err refusal.Masters) ≡ Ok (Some (c, k))
         → k ≡ length (step_text s)
     go true true z e = no (cc)
     go true false true e = no (cc)
@@ -75,20 +75,20 @@ pub undump_last : (p : Position) → (bytes : List ℕ) × (undump_turn p [] ≡
 unfolding undump_turn read_step_of
 undump_last p = go (masters_ok p.n)
   where
-    go : (m : Bool) → (bytes : List ℕ) × (recalled (cond m NoMore (Refused refusal.Masters)) p [] ≡ stops bytes)
+    go : (m : Bool) → (bytes : List ℕ) × (recalled (cond m (Ok None) (Err refusal.Masters)) p [] ≡ stops bytes)
     go true = (_, refl)
     go false = (_, refl)
 
 -- a turn that goes on has read a step
 pub goes_by : {P : Type 0} (p : Position) (s bytes : List ℕ) (t : Position) (k : ℕ) → undump_turn p s ≡ goes bytes t k
-    → ((c : Cycle) → read_step_of p.n p.count p.before s 0 ≡ Line c k → t ≡ after p c (lines_in (take k s)) → P) → P
+    → ((c : Cycle) → read_step_of p.n p.count p.before s 0 ≡ Ok (Some (c, k)) → t ≡ after p c (lines_in (take k s)) → P) → P
 unfolding undump_turn
 goes_by {P} p s bytes t k e next = go (read_step_of p.n p.count p.before s 0) refl
   where
     go : (r : TraceRead) → read_step_of p.n p.count p.before s 0 ≡ r → P
-    go (Line c m) q = let f = rw q at e in let same : m ≡ k = cc in next c (rw same at q) (cc)
-    go NoMore q = let f = rw q at e in no (cc)
-    go (Refused r) q = let f = rw q at e in no (cc)
+    go (Ok (Some (c, m))) q = let f = rw q at e in let same : m ≡ k = cc in next c (rw same at q) (cc)
+    go (Ok None) q = let f = rw q at e in no (cc)
+    go (Err r) q = let f = rw q at e in no (cc)
 
 pub undump_next : (p : Position) (rest bytes : List ℕ) (t : Position) (k : ℕ) → undump_turn p rest ≡ goes bytes t k
     → (3 ≤ k) × (k ≤ 104) × (k ≤ length rest)
@@ -102,11 +102,11 @@ unfolding undump_turn
 read_near p a b e = rw e (go (read_step_of p.n p.count p.before a 0) refl)
   where
     go : (r : TraceRead) → read_step_of p.n p.count p.before a 0 ≡ r → recalled r p (a ++ b) ≡ recalled r p a
-    go (Line c next) q =
+    go (Ok (Some (c, next))) q =
         let f = found p.n p.count p.before a c next q in
         ap (λ (l : List ℕ). goes (trace_line c) (after p c (lines_in l)) next) (take-append-le next a b f.inside)
-    go NoMore q = refl
-    go (Refused r) q = refl
+    go (Ok None) q = refl
+    go (Err r) q = refl
 
 pub undump_near : (p : Position) (a b : List ℕ) → BetweenSteps a b → 0 < length a → undump_turn p (a ++ b) ≡ undump_turn p a
 undump_near p a b (whole (nothing e)) h = absurd (omega (arith, ap length e))

@@ -2,11 +2,10 @@
 -- proofs/DumpPromises.antt by a law of its name, in lower case with underscores.
 --
 --   dump_run h blocks last == what the calls write for a header that was read and the blocks after it
-use Rattle.std.specs.Prelude.{ℕ, ◌+◌, ◌*◌, ◌≤◌, ◌<◌, ◌≡◌, true, List, [], ◌++◌, length, take, drop}
+use Rattle.std.specs.Prelude.{ℕ, ◌+◌, ◌*◌, ◌≤◌, ◌<◌, ◌≡◌, true, List, [], ◌++◌, length, take, drop, Ok}
 use Rattle.rules.specs.Codes.{most_cycles, fewest_masters, most_masters}
 use Rattle.formats.specs.declared.Word.TheVariants.{Trace}
-use Rattle.formats.specs.declared.HeaderRead.{HeaderRead}
-use Rattle.formats.specs.declared.HeaderRead.TheVariants as head
+use Rattle.formats.specs.Results.{HeaderRead}
 use Rattle.formats.specs.Fields.{width}
 use Rattle.formats.specs.Lines.{trace_fields}
 use Rattle.formats.specs.Headers.{read_header_of}
@@ -27,7 +26,7 @@ use Rattle.conversions.specs.Heads.{dump_head_room, dump_headed, dump_head_of, d
 -- a last one that may be cut.
 abbrev pub DumpInBlocks : Type 0
 DumpInBlocks =
-    (s : List ℕ) (n next : ℕ) (blocks : List (List ℕ)) (last : List ℕ) → read_header_of Trace s ≡ head.Header n next
+    (s : List ℕ) (n next : ℕ) (blocks : List (List ℕ)) (last : List ℕ) → read_header_of Trace s ≡ Ok (n, next)
     → drop next s ≡ joined blocks last → AllWhole (width trace_fields) blocks
     → dump_program s ≡ dump_header n ++ in_blocks dump_turn (start_at n first_line) blocks last
 

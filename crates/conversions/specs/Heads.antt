@@ -3,10 +3,9 @@
 --   undump_head_size s     == the bytes that vcd2trace reads before it tells what header it has
 --   dump_headed h, undump_headed h == what a header comes to: the other file's header and the start, or the line of its refusal
 --   dump_head_of, dump_head_left, undump_head_of, undump_head_left == the answers of the calls that take a header, and the buffer afterwards
-use Rattle.std.specs.Prelude.{ℕ, ◌-◌, ◌+◌, true, cond, List, eqb, get_or}
+use Rattle.std.specs.Prelude.{ℕ, ◌-◌, ◌+◌, true, cond, List, eqb, get_or, Err, Ok}
 use Rattle.formats.specs.declared.Word.TheVariants.{Trace}
-use Rattle.formats.specs.declared.HeaderRead.{HeaderRead}
-use Rattle.formats.specs.declared.HeaderRead.TheVariants as head
+use Rattle.formats.specs.Results.{HeaderRead}
 use Rattle.formats.specs.Digits.{lf}
 use Rattle.formats.specs.Headers.{header, read_header_of}
 use Rattle.formats.specs.Report.{refused_line}
@@ -36,12 +35,12 @@ undump_head_room = 31
 
 -- a refusal stands beside a start of no masters
 abbrev pub dump_headed : HeaderRead → Stretch Position
-dump_headed (head.Header n next) = on (dump_header n) (start_at n first_line)
-dump_headed (head.Refused r) = done (refused_line 1 r) (start_at 0 first_line)
+dump_headed (Ok (n, next)) = on (dump_header n) (start_at n first_line)
+dump_headed (Err r) = done (refused_line 1 r) (start_at 0 first_line)
 
 abbrev pub undump_headed : HeaderRead → Stretch Position
-undump_headed (head.Header n next) = on (header Trace n) (start_at n first_step)
-undump_headed (head.Refused r) = done (refused_line 1 r) (start_at 0 first_step)
+undump_headed (Ok (n, next)) = on (header Trace n) (start_at n first_step)
+undump_headed (Err r) = done (refused_line 1 r) (start_at 0 first_step)
 
 unfoldable pub dump_head_of : List ℕ → ℕ → Converted
 dump_head_of s room = converted_in room dump_head_room true (start_at 0 first_line) (dump_headed (read_header_of Trace s))

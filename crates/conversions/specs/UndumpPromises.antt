@@ -2,11 +2,10 @@
 -- proofs/UndumpPromises.antt by a law of its name, in lower case with underscores.
 --
 --   undump_run h        == what the program writes for a header that was read and the blocks after it
-use Rattle.std.specs.Prelude.{ℕ, ◌+◌, ◌*◌, ◌≤◌, ◌<◌, ◌≡◌, true, List, [], ◌++◌, length, take, drop}
+use Rattle.std.specs.Prelude.{ℕ, ◌+◌, ◌*◌, ◌≤◌, ◌<◌, ◌≡◌, true, List, [], ◌++◌, length, take, drop, Err, Ok}
 use Rattle.rules.specs.Codes.{fewest_masters, most_masters, most_cycles}
 use Rattle.formats.specs.declared.Word.TheVariants.{Trace}
-use Rattle.formats.specs.declared.HeaderRead.{HeaderRead}
-use Rattle.formats.specs.declared.HeaderRead.TheVariants as head
+use Rattle.formats.specs.Results.{HeaderRead}
 use Rattle.formats.specs.Headers.{header}
 use Rattle.formats.specs.Report.{refused_line}
 use Rattle.streams.specs.declared.Flow.TheVariants.{GoesOn}
@@ -22,8 +21,8 @@ use Rattle.conversions.specs.Blocks.{BetweenSteps, undump_stretch, undump_block_
 use Rattle.conversions.specs.Heads.{undump_head_size, undump_head_room, undump_head_of, undump_head_left}
 
 abbrev pub undump_run : HeaderRead → List (List ℕ) → List ℕ → List ℕ
-undump_run (head.Header n next) blocks last = header Trace n ++ in_blocks undump_turn (start_at n first_step) blocks last
-undump_run (head.Refused r) blocks last = refused_line 1 r
+undump_run (Ok (n, next)) blocks last = header Trace n ++ in_blocks undump_turn (start_at n first_step) blocks last
+undump_run (Err r) blocks last = refused_line 1 r
 
 -- What the program writes is a function of the bytes it reads: reading as many bytes as a header has, and then blocks that are cut between
 -- steps and a last one that may be cut anywhere, it writes what it would write had it read all of its input at once.

@@ -1,6 +1,7 @@
 -- The 42 bytes and the well-formed judges correspond one to one: the statements of specs/Promises.antt, each by the law of its name.
 --
 --   judge_fits   == a well-formed judge fits its bytes
+use Rattle.std.specs.Prelude.{Ok}
 use Prim.Native.Nat.{ℕ, zero, suc, ◌+◌, ◌/◌, ◌%◌, ◌≤◌, ◌<◌}
 use mathlib.Core.Path.{◌≡◌, refl, sym, ◌∙◌}
 use mathlib.Core.Bool.{Bool, true, false, ◌||◌}
@@ -10,7 +11,6 @@ use borrow.Author.Tests.{leb-true, leb-false, le-leb, eqb-true}
 use lib.Dec.{eqb, leb}
 use lib.ListN.{length, get_or, take, drop, get_or-eq_default}
 use lib.Seq.{take_at, take-add, drop-drop}
-use Rattle.rules.specs.declared.Check.TheVariants.{Good}
 use Rattle.rules.specs.declared.Inputs.{Inputs}
 use Rattle.rules.specs.declared.Outputs.{Outputs}
 use Rattle.rules.specs.declared.Cycle.{Cycle}
@@ -69,7 +69,7 @@ left_below opened OnG2 e = omega arith
 left_below opened (OnG3 k) e = let f : leb k 3 ≡ true = search (and_left, and_right) depth 9 in omega (arith, leb-true k 3 f)
 
 -- what is well formed fits
-cycle_fits : (n : ℕ) (c : Cycle) → n ≤ 16 → cycle_check n c ≡ Good → InputsFit c.inputs × OutputsFit c.outputs
+cycle_fits : (n : ℕ) (c : Cycle) → n ≤ 16 → cycle_check n c ≡ Ok tt → InputsFit c.inputs × OutputsFit c.outputs
 cycle_fits n c many e =
     let p = cycle_passed n c e in
     let x = inputs_small c.inputs (or_left (inputs_too_large c.inputs) (outputs_too_large c.outputs) p.value) in

@@ -5,6 +5,7 @@
 --   long_enough, plain_start == with buffers that are long enough, a call is the step of the judge that the bytes write, or the start
 --   refused_unchanged == a step that answers another number than 0 changes no byte
 --   flag_at == the flag of the rule i
+use Rattle.std.specs.Prelude.{Err, Ok}
 use Prim.Native.Nat.{ℕ, zero, suc, ◌≤◌, ◌<◌}
 use mathlib.Core.Path.{◌≡◌, refl, sym, ◌∙◌}
 use mathlib.Core.Bool.{Bool, false}
@@ -17,8 +18,7 @@ use Rattle.rules.specs.declared.Cycle.{Cycle}
 use Rattle.rulebook.specs.declared.Rule.{Rule}
 use Rattle.rulebook.specs.declared.Rule.TheVariants.{A1}
 use Rattle.rulebook.specs.declared.Judge.{Judge}
-use Rattle.rulebook.specs.declared.Verdict.{Verdict}
-use Rattle.rulebook.specs.declared.Verdict.TheVariants.{Taken, Refused}
+use Rattle.rulebook.specs.Results.{Verdict}
 use Rattle.rulebook.specs.Rules.{rules}
 use Rattle.rulebook.specs.State.{start_judge, start_of}
 use Rattle.rulebook.specs.Charges.{charges}
@@ -41,7 +41,7 @@ pub long_enough : (judge broken : List ℕ) (c : Cycle) → judge_size ≤ lengt
 unfolding judge_step
 long_enough judge broken c room space = simp (le-ltb (length judge) 42 room, le-ltb (length broken) 4 space)
 
-pub short_start : (n : ℕ) (judge : List ℕ) → length judge < judge_size → judge_start n judge ≡ record { judge = start_judge 0; verdict = Refused Short }
+pub short_start : (n : ℕ) (judge : List ℕ) → length judge < judge_size → judge_start n judge ≡ record { judge = start_judge 0; verdict = Err Short }
 unfolding judge_start
 short_start n judge h = simp (lt-ltb (length judge) 42 h)
 
@@ -60,8 +60,8 @@ refused_steps_keep c judge broken judge' broken' number some call =
     (call.1 ∙ k.0, call.2 ∙ k.1)
 
 start_unchanged : (v : Verdict) (j : Judge) (judge : List ℕ) → 1 ≤ number_of v → start_after (record { judge = j; verdict = v }) judge ≡ judge
-start_unchanged Taken j judge h = absurd (omega arith)
-start_unchanged (Refused r) j judge h = refl
+start_unchanged (Ok _) j judge h = absurd (omega arith)
+start_unchanged (Err r) j judge h = refl
 
 pub refused_starts_keep : RefusedStartsKeep
 refused_starts_keep n judge judge' number some call =

@@ -10,14 +10,13 @@
 --   judge_after r buffer, broken_after r buffer == the two buffers after a step
 --   judge_start n judge == what a start over the lent bytes comes to; start_after gives the buffer afterwards
 --   JudgeStepCall, JudgeStartCall == the contracts of the two calls
-use Rattle.std.specs.Prelude.{ℕ, ◌≡◌, cond, List, ◌++◌, ltb, length, drop}
+use Rattle.std.specs.Prelude.{ℕ, ◌≡◌, cond, List, ◌++◌, ltb, length, drop, Err, Ok}
 use Rattle.rules.specs.declared.Refusal.{Refusal}
 use Rattle.rules.specs.declared.Refusal.TheVariants.{Short, State as StateRefusal}
 use Rattle.rules.specs.declared.Cycle.{Cycle}
 use Rattle.rules.specs.Refusals.{number_of as refusal_number}
 use Rattle.rulebook.specs.declared.Judge.{Judge}
-use Rattle.rulebook.specs.declared.Verdict.{Verdict}
-use Rattle.rulebook.specs.declared.Verdict.TheVariants.{Taken, Refused}
+use Rattle.rulebook.specs.Results.{Verdict}
 use Rattle.rulebook.specs.declared.Started.{Started}
 use Rattle.rulebook.specs.declared.Judgement.{Judgement}
 use Rattle.rulebook.specs.State.{start_judge, start_of}
@@ -44,8 +43,8 @@ pub data Ruling : Type 0 where
   refused : Refusal → Ruling
 
 abbrev pub ruled_by : Verdict → Judgement → Ruling
-ruled_by Taken a = taken a.judge (mask_of a.charged)
-ruled_by (Refused r) a = refused r
+ruled_by (Ok _) a = taken a.judge (mask_of a.charged)
+ruled_by (Err r) a = refused r
 
 abbrev pub ruling_of : Judgement → Ruling
 ruling_of a = ruled_by a.verdict a
@@ -82,11 +81,11 @@ broken_after (refused r) buffer = buffer
 -- 9, then as a start: 1; the judge beside a refusal is one of no masters
 unfoldable pub judge_start : ℕ → List ℕ → Started
 judge_start n judge =
-    cond (ltb (length judge) judge_size) (record { judge = start_judge 0; verdict = Refused Short }) (start_of n)
+    cond (ltb (length judge) judge_size) (record { judge = start_judge 0; verdict = Err Short }) (start_of n)
 
 abbrev pub started_by : Verdict → Judge → List ℕ → List ℕ
-started_by Taken j buffer = judge_stored j buffer
-started_by (Refused r) j buffer = buffer
+started_by (Ok _) j buffer = judge_stored j buffer
+started_by (Err r) j buffer = buffer
 
 abbrev pub start_after : Started → List ℕ → List ℕ
 start_after a buffer = started_by a.verdict a.judge buffer

@@ -4,6 +4,7 @@
 --   header_wrote, header_none == so the dump's header is written
 --   head_short, head_begun, head_refused == the ends of the call that takes a header
 --   block_short, block_unformed, block_fit, block_taken == the ends of the call that takes a block
+use Rattle.std.specs.Prelude.{Err, Ok}
 use Prim.Native.Nat.{ℕ, ◌+◌, ◌/◌, ◌≤◌, ◌<◌}
 use mathlib.Core.Path.{◌≡◌, refl, sym, ap, ◌∙◌}
 use mathlib.Core.Bool.{Bool, true, false, not}
@@ -14,10 +15,7 @@ use lib.ListN.{length}
 use Rattle.rules.specs.declared.Refusal.{Refusal}
 use Rattle.rules.specs.State.{masters_ok}
 use Rattle.formats.specs.declared.Word.TheVariants.{Trace}
-use Rattle.formats.specs.declared.HeaderRead.{HeaderRead}
-use Rattle.formats.specs.declared.HeaderRead.TheVariants as head
-use Rattle.formats.specs.declared.Written.{Written}
-use Rattle.formats.specs.declared.Written.TheVariants as wrote
+use Rattle.formats.specs.Results.{HeaderRead, Written}
 use Rattle.formats.specs.Headers.{read_header_of}
 use Rattle.formats.specs.Report.{refused_line}
 use Rattle.formats.proofs.Limits.{range_ok}
@@ -35,15 +33,15 @@ use Rattle.conversions.specs.Heads.{dump_head_room, dump_headed, dump_head_of, d
 use Rattle.conversions.proofs.DumpHeads.{dump_header_fits}
 use Rattle.conversions.proofs.Answers.{few_lines, many_lines, short, unformed, taken}
 
-pub header_good : (s : List ℕ) (a : HeaderRead) (n next : ℕ) → a ≡ read_header_of Trace s → a ≡ head.Header n next → masters_ok n ≡ true
+pub header_good : (s : List ℕ) (a : HeaderRead) (n next : ℕ) → a ≡ read_header_of Trace s → a ≡ Ok (n, next) → masters_ok n ≡ true
 header_good s a n next e f = range_ok n (header_writes Trace s n next (sym e ∙ f)).range
 
 module _ (n : ℕ) (buffer out : List ℕ) (w : Written) (h : (masters_ok n ≡ true) × (398 ≤ length buffer))
     (e : (w ≡ write_dump_header_of n (length buffer)) × (out ≡ dump_header_written n buffer)) where
-  pub header_wrote : (k : ℕ) → w ≡ wrote.Bytes k → Put (dump_header n) buffer k out
+  pub header_wrote : (k : ℕ) → w ≡ Ok k → Put (dump_header n) buffer k out
   header_wrote k f = rw (ap size_of f) at (dump_header_fits n h.0 buffer out w h.1 e)
 
-  pub header_none : (r : Refusal) → w ≡ wrote.Refused r → Put (dump_header n) buffer 0 out
+  pub header_none : (r : Refusal) → w ≡ Err r → Put (dump_header n) buffer 0 out
   header_none r f = rw (ap size_of f) at (dump_header_fits n h.0 buffer out w h.1 e)
 
 module _ (s buffer : List ℕ) (p : Position) where
@@ -53,19 +51,19 @@ module _ (s buffer : List ℕ) (p : Position) where
   head_short h f = rw f (short dump_head_room true (start_at 0 first_line) (dump_headed (read_header_of Trace s)) buffer h)
 
   module _ (a : HeaderRead) (k : ℕ) (out : List ℕ) (room : dump_head_room ≤ length buffer) (e : a ≡ read_header_of Trace s) where
-    pub head_begun : (n next : ℕ) → a ≡ head.Header n next → Put (dump_header n) buffer k out → p ≡ start_at n first_line
+    pub head_begun : (n next : ℕ) → a ≡ Ok (n, next) → Put (dump_header n) buffer k out → p ≡ start_at n first_line
         → (record { written = k; flow = GoesOn; position = p } ≡ dump_head_of s (length buffer)) × (out ≡ dump_head_left s buffer)
     unfolding dump_head_of dump_head_left
     head_begun n next f put g =
-        let q : read_header_of Trace s ≡ head.Header n next = sym e ∙ f in
+        let q : read_header_of Trace s ≡ Ok (n, next) = sym e ∙ f in
         taken dump_head_room true (start_at 0 first_line) (dump_headed (read_header_of Trace s)) buffer room refl _ out
         (rw (q, g, put.size), rw q put.puts)
 
-    pub head_refused : (r : Refusal) → a ≡ head.Refused r → Put (refused_line 1 r) buffer k out → p ≡ start_at 0 first_line
+    pub head_refused : (r : Refusal) → a ≡ Err r → Put (refused_line 1 r) buffer k out → p ≡ start_at 0 first_line
         → (record { written = k; flow = Stopped; position = p } ≡ dump_head_of s (length buffer)) × (out ≡ dump_head_left s buffer)
     unfolding dump_head_of dump_head_left
     head_refused r f put g =
-        let q : read_header_of Trace s ≡ head.Refused r = sym e ∙ f in
+        let q : read_header_of Trace s ≡ Err r = sym e ∙ f in
         taken dump_head_room true (start_at 0 first_line) (dump_headed (read_header_of Trace s)) buffer room refl _ out
         (rw (q, g, put.size), rw q put.puts)
 

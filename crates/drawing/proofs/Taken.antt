@@ -3,6 +3,7 @@
 --   line_drawn == a line that was read, in time, goes on with its step
 --   untaken, left_untaken == where no line is drawn, by a glance, and at the end of the loop
 --   stops_full == a good line after the last cycle is refusal 8
+use Rattle.std.specs.Prelude.{Ok, Some}
 use Prim.Native.Nat.{ℕ, ◌-◌, ◌<◌}
 use mathlib.Core.Path.{◌≡◌, refl, sym, ◌∙◌}
 use mathlib.Core.Bool.{Bool, true, false, ◌&&◌}
@@ -14,8 +15,7 @@ use lib.ListN.{length, drop, length-drop}
 use Rattle.rules.specs.declared.Refusal.TheVariants.{Full}
 use Rattle.rules.specs.declared.Cycle.{Cycle}
 use Rattle.rules.specs.Codes.{most_cycles}
-use Rattle.formats.specs.declared.TraceRead.{TraceRead}
-use Rattle.formats.specs.declared.TraceRead.TheVariants.{Line}
+use Rattle.formats.specs.Results.{TraceRead}
 use Rattle.formats.specs.Lines.{read_trace_of}
 use Rattle.formats.specs.Report.{refused_line}
 use Rattle.streams.specs.Turns.{Put, Lined}
@@ -29,13 +29,13 @@ use Rattle.conversions.proofs.DumpLines.{drawn_on, drawn_full}
 use Rattle.drawing.specs.Stops.{NotTaken}
 
 module _ (p : Position) where
-  pub line_drawn : (c : Cycle) (rest buffer out : List ℕ) (k w : ℕ) (next : Position) → p.count < most_cycles → read_trace_of p.n rest 0 ≡ Line c k
+  pub line_drawn : (c : Cycle) (rest buffer out : List ℕ) (k w : ℕ) (next : Position) → p.count < most_cycles → read_trace_of p.n rest 0 ≡ Ok (Some (c, k))
       → Put (dump_step p.before p.count c) buffer w out × (next ≡ after p c 1) → Lined p (dump_turn p rest) buffer w true next out
   line_drawn c rest buffer out k w next room e g =
       rw g.1 (drawn_on p rest (read_trace_of p.n rest 0) refl buffer w out c k e room g.0)
 
   -- a line that is not taken, as it was read
-  pub stops_full : (rest buffer out : List ℕ) (a : TraceRead) (c : Cycle) (n k : ℕ) → NotTaken p rest → a ≡ read_trace_of p.n rest 0 → a ≡ Line c n
+  pub stops_full : (rest buffer out : List ℕ) (a : TraceRead) (c : Cycle) (n k : ℕ) → NotTaken p rest → a ≡ read_trace_of p.n rest 0 → a ≡ Ok (Some (c, n))
       → Put (refused_line p.line Full) buffer k out → Lined p (dump_turn p rest) buffer k false p out
   stops_full rest buffer out a c n k stop e g put = drawn_full p rest a e buffer k out c n g (stop.full c n (sym e ∙ g)) put
 

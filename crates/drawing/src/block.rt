@@ -10,7 +10,6 @@ ghost use Rattle.conversions.specs.Blocks.{as_converted, dump_room, dump_stretch
 ghost use Rattle.drawing.specs.Stops.{NotTaken};
 
 use conversions::{Converted, Position};
-use formats::TraceRead;
 use rules::{Cycle, Refusal};
 use streams::Flow;
 
@@ -43,9 +42,9 @@ fn stop(p: Position, rest: &[u8], out: &mut [u8]) -> usize
     ensures { Lined p (dump_turn p rest.now) out.old result false p out.new }
 {
     match lines::read_trace(p.n, rest, 0) {
-        TraceRead::Line(_, _) => reports::put_refused(p.line, Refusal::Full, out),
-        TraceRead::NoMore => 0,
-        TraceRead::Refused(r) => reports::put_refused(p.line, r, out),
+        Ok(Some((_, _))) => reports::put_refused(p.line, Refusal::Full, out),
+        Ok(None) => 0,
+        Err(r) => reports::put_refused(p.line, r, out),
     }
 }
 

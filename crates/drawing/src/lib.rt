@@ -12,7 +12,7 @@ ghost use Rattle.conversions.specs.Blocks.{dump_block_of, dump_block_left};
 ghost use Rattle.conversions.specs.Heads.{dump_head_of, dump_head_left};
 
 use conversions::{Converted, Position};
-use formats::{HeaderRead, Word, Written};
+use formats::Word;
 use streams::Flow;
 
 // The dump's header.
@@ -21,8 +21,8 @@ fn put_header(n: u32, out: &mut [u8]) -> usize
     ensures { Put (dump_header n) out.old result out.new }
 {
     match dumps::write_dump_header(n, out) {
-        Written::Bytes(k) => k,
-        Written::Refused(_) => 0,
+        Ok(k) => k,
+        Err(_) => 0,
     }
 }
 
@@ -38,12 +38,12 @@ pub fn dump_head(head: &[u8], out: &mut [u8]) -> Converted
         };
     }
     match headers::read_header(Word::Trace, head) {
-        HeaderRead::Header(n, _) => Converted {
+        Ok((n, _)) => Converted {
             written: put_header(n, out),
             flow: Flow::GoesOn,
             position: positions::start(n, 2),
         },
-        HeaderRead::Refused(r) => Converted {
+        Err(r) => Converted {
             written: reports::put_refused(1, r, out),
             flow: Flow::Stopped,
             position: positions::start(0, 2),

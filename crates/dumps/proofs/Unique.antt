@@ -6,7 +6,7 @@ use mathlib.Core.List.{List}
 use contract.Lifetimes.{Lfts}
 use denote.MutBor.{MutBor}
 use Rattle.rules.specs.declared.Cycle.{Cycle}
-use Rattle.formats.specs.declared.Written.{Written}
+use Rattle.formats.specs.Results.{Written}
 use Rattle.dumps.proofs.write_dump_header.Reads as write_header
 use Rattle.dumps.proofs.put_step.Reads as put_step
 use Rattle.dumps.proofs.write_step.Reads as write_step

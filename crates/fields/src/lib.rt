@@ -10,7 +10,7 @@ ghost use Rattle.formats.specs.Digits.{hex_char, hex_digit, hex, number_at};
 ghost use Rattle.formats.specs.Fields.{parted};
 ghost use Rattle.formats.specs.Lines.{stimulus_fields, trace_fields, for_masters};
 
-use rules::{Check, Refusal};
+use rules::Refusal;
 
 // n from 2 to 16.
 pub fn masters_ok(n: u32) -> bool
@@ -20,13 +20,13 @@ pub fn masters_ok(n: u32) -> bool
 }
 
 // The first test of a writer: 1, before what the others found.
-pub fn for_masters(n: u32, k: Check) -> Check
+pub fn for_masters(n: u32, k: Result<(), Refusal>) -> Result<(), Refusal>
     ensures { result ≡ for_masters n k }
 {
     if masters_ok(n) {
         k
     } else {
-        Check::Bad(Refusal::Masters)
+        Err(Refusal::Masters)
     }
 }
 

@@ -4,6 +4,7 @@
 --   place_behind   == what there is at a position
 --   reading_behind == the law, over any format of lines
 --   stimulus_behind, trace_behind == the same of the two readers, at the front of what stands behind
+use Rattle.std.specs.Prelude.{Err, Ok}
 use Prim.Native.Nat.{ℕ, zero, suc, ◌+◌, ◌-◌}
 use mathlib.Core.Path.{◌≡◌, refl, sym, ◌∙◌, ap}
 use mathlib.Core.Bool.{Bool, true, false, cond}
@@ -15,8 +16,7 @@ use lib.Dec.{eqb, ltb}
 use lib.ListN.{length, length-append}
 use lib.Seq.{get_or-append-add}
 use Rattle.rules.specs.declared.Refusal.TheVariants as refusal
-use Rattle.rules.specs.declared.Check.{Check}
-use Rattle.rules.specs.declared.Check.TheVariants.{Good, Bad}
+use Rattle.rules.specs.Results.{Check}
 use Rattle.rules.specs.State.{masters_ok}
 use Rattle.rules.proofs.Choice.{either, order}
 use Rattle.formats.specs.Digits.{number_at}
@@ -87,8 +87,8 @@ module _ (pre s : List ℕ) where
     found_later k next true beyond c a = refl
     found_later k next true at_end c a = refl
     found_later k next true cut c a = refl
-    found_later k next true whole Good a = refl
-    found_later k next true whole (Bad r) a = refl
+    found_later k next true whole (Ok _) a = refl
+    found_later k next true whole (Err r) a = refl
 
     pub reading_behind : (p : ℕ) → reading F n (pre ++ s) (length pre + p) ≡ later (length pre) (reading F n s p)
     unfolding reading

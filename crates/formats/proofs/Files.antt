@@ -7,6 +7,7 @@
 --   file_of_lem  == a reader of such files, over the reader of their lines
 --   file_reads, file_writes == the two round trips of a file
 --   file_refused == what is refused after k valid lines is refused at line k + 2
+use Rattle.std.specs.Prelude.{Err, Ok}
 use Prim.Native.Nat.{ℕ, zero, suc, ◌+◌, ◌≤◌, ◌<◌}
 use mathlib.Core.Path.{◌≡◌, refl, sym, ◌∙◌, ap, fun_ext}
 use mathlib.Core.Bool.{Bool, true, false, false≢true}
@@ -17,8 +18,7 @@ use lib.ListN.{length, drop, length-append, take-append-drop, drop_of_length-le}
 use lib.Seq.{drop-drop, drop-length}
 use Rattle.rules.specs.declared.Refusal.{Refusal}
 use Rattle.formats.specs.declared.Word.{Word}
-use Rattle.formats.specs.declared.HeaderRead.{HeaderRead}
-use Rattle.formats.specs.declared.HeaderRead.TheVariants as head
+use Rattle.formats.specs.Results.{HeaderRead}
 use Rattle.formats.specs.Headers.{header, read_header_of}
 use Rattle.formats.specs.Files.{lines_of, Line, one, no_more, refused, Lines, ended, stopped, before, onward, lines_from, File, complete, refused_at, file_of, after_header}
 use Rattle.formats.specs.Promises.{Each, InRange}
@@ -52,10 +52,10 @@ module _ {A : Type 0} where
   file_elim n m (stopped k r) l e f = absurd (false≢true (ap is_complete e))
 
   header_elim : {P : Type 0} (h : HeaderRead) (lines : ℕ → ℕ → Lines A) (n : ℕ) (l : List A) → after_header h lines ≡ complete n l
-      → ((p : ℕ) → h ≡ head.Header n p → lines n p ≡ ended l → P) → P
-  header_elim (head.Header m p) lines n l e f =
-      file_elim n m (lines m p) l e (λ q r. f p (ap (λ k. head.Header k p) q) (rw (← q) r))
-  header_elim (head.Refused r) lines n l e f = absurd (false≢true (ap is_complete e))
+      → ((p : ℕ) → h ≡ Ok (n, p) → lines n p ≡ ended l → P) → P
+  header_elim (Ok (m, p)) lines n l e f =
+      file_elim n m (lines m p) l e (λ q r. f p (ap (λ k. Ok (k, p)) q) (rw (← q) r))
+  header_elim (Err r) lines n l e f = absurd (false≢true (ap is_complete e))
 
 abbrev pub befores : {A : Type 0} → List A → Lines A → Lines A
 befores [] m = m
@@ -147,7 +147,7 @@ module _ {A : Type 0} (w : Word) (F : Format A) where
       let e : s ≡ header w n ++ (lines ++ rest) = append_assoc (header w n) lines rest in
       let fuel : length l < suc (length s) =
       omega (arith, lines_long F l, length-append (file_for n l) rest, length-append (header w n) lines) in
-      let h : read_header_of w s ≡ head.Header n (length (header w n)) = rw e (header_reads w n (lines ++ rest) range) in
+      let h : read_header_of w s ≡ Ok (n, length (header w n)) = rw e (header_reads w n (lines ++ rest) range) in
       let past : (more : ℕ → Lines A) → onward (reading F n s (length (header w n) + length lines)) more ≡ out =
       λ more. rw (← length-append (header w n) lines) (stops more) in
       rw (h, lines_read F n l (suc (length s)) (header w n) rest s out e range all fuel past)

@@ -4,6 +4,7 @@
 --   first_gives  == the tests 4 to 7
 --   header_gives == of a header
 --   stimulus_gives, trace_gives == of a line
+use Rattle.std.specs.Prelude.{Err, Ok}
 use Prim.Native.Nat.{ℕ, ◌+◌, ◌-◌, ◌*◌, ◌≤◌}
 use mathlib.Core.Path.{◌≡◌, refl, sym, ◌∙◌, ap}
 use mathlib.Core.Logic.{◌⊎◌, inl, inr}
@@ -14,8 +15,7 @@ use lib.Dec.{ltb}
 use lib.ListN.{length, get_or}
 use Rattle.rules.specs.declared.Refusal.{Refusal}
 use Rattle.rules.specs.declared.Refusal.TheVariants as refusal
-use Rattle.rules.specs.declared.Check.{Check}
-use Rattle.rules.specs.declared.Check.TheVariants.{Good, Bad}
+use Rattle.rules.specs.Results.{Check}
 use Rattle.rules.specs.declared.Inputs.{Inputs}
 use Rattle.rules.specs.declared.Cycle.{Cycle}
 use Rattle.rules.specs.Refusals.{number_of, first_of}
@@ -23,8 +23,7 @@ use Rattle.rules.specs.Valid.{inputs_too_large, outputs_too_large, inputs_not_bu
 use Rattle.rules.specs.State.{masters_ok}
 use Rattle.rules.proofs.Choice.{cond_elim}
 use Rattle.formats.specs.declared.Word.{Word}
-use Rattle.formats.specs.declared.HeaderRead.{HeaderRead}
-use Rattle.formats.specs.declared.HeaderRead.TheVariants as head
+use Rattle.formats.specs.Results.{HeaderRead}
 use Rattle.formats.specs.Lines.{Place, beyond, at_end, cut, whole, place, line_check, read_stimulus_of, read_trace_of}
 use Rattle.formats.specs.Headers.{prefix, starts_with, one_digit, two_digits, ranged, number_in, read_header_of}
 use Rattle.formats.specs.Files.{refused, as_stimulus, as_trace}
@@ -35,7 +34,7 @@ use Rattle.formats.proofs.Lines.{stimulus, trace, stimulus_reading, trace_readin
 
 -- a header that was read is no refusal
 abbrev Given : Refusal → HeaderRead → Type 0
-Given r a = a ≡ head.Refused r → (number_of r ≡ 2) ⊎ (number_of r ≡ 1)
+Given r a = a ≡ Err r → (number_of r ≡ 2) ⊎ (number_of r ≡ 1)
 
 module _ (r : Refusal) where
   -- 1 or none
@@ -45,7 +44,7 @@ module _ (r : Refusal) where
       (λ ok e. let z : ◌≡◌ {A = ℕ} 0 1 = cc in absurd (omega arith))
       (λ ok e. let i : refusal.Masters ≡ r = cc in inr (ap number_of (sym i)))
 
-  other_gives : Given r (head.Refused refusal.Header)
+  other_gives : Given r (Err refusal.Header)
   other_gives e = let i : refusal.Header ≡ r = cc in inl (ap number_of (sym i))
 
   number_gives : (s : List ℕ) (p : ℕ) → Given r (number_in s p)
@@ -58,7 +57,7 @@ module _ (r : Refusal) where
       (λ two. ranged_gives ((get_or s p 0 - 48) * 10 + (get_or s (p + 1) 0 - 48)) (p + 3))
       (λ none. other_gives))
 
-  pub header_gives : (w : Word) (s : List ℕ) → read_header_of w s ≡ head.Refused r → (number_of r ≡ 2) ⊎ (number_of r ≡ 1)
+  pub header_gives : (w : Word) (s : List ℕ) → read_header_of w s ≡ Err r → (number_of r ≡ 2) ⊎ (number_of r ≡ 1)
   unfolding read_header_of
   header_gives w s =
       cond_elim (Given r) (starts_with s (prefix w)) (λ starts. number_gives s (length (prefix w))) (λ other. other_gives)
@@ -66,21 +65,21 @@ module _ (r : Refusal) where
 abbrev pub OfALine : Refusal → Type 0
 OfALine r = (3 ≤ number_of r) × (number_of r ≤ 7)
 
-pub first_gives : (v u a o : Bool) (r : Refusal) → first_of v u a o ≡ Bad r → OfALine r
+pub first_gives : (v u a o : Bool) (r : Refusal) → first_of v u a o ≡ Err r → OfALine r
 first_gives true u a o r e = let i : refusal.Value ≡ r = cc in rw (← i) (omega arith)
 first_gives false true a o r e = let i : refusal.NotBuilt ≡ r = cc in rw (← i) (omega arith)
 first_gives false false true o r e = let i : refusal.Absent ≡ r = cc in rw (← i) (omega arith)
 first_gives false false false true r e = let i : refusal.Owner ≡ r = cc in rw (← i) (omega arith)
 first_gives false false false false r e = let z : ◌≡◌ {A = ℕ} 0 1 = cc in absurd (omega arith)
 
-inputs_give : (n : ℕ) (x : Inputs) (r : Refusal) → inputs_check n x ≡ Bad r → OfALine r
+inputs_give : (n : ℕ) (x : Inputs) (r : Refusal) → inputs_check n x ≡ Err r → OfALine r
 unfolding inputs_check
 inputs_give n x r e = first_gives (inputs_too_large x) (inputs_not_built x) (inputs_absent n x) false r e
 
-pub line_gives : (n : ℕ) (c : Cycle) (r : Refusal) → line_check n c ≡ Bad r → OfALine r
+pub line_gives : (n : ℕ) (c : Cycle) (r : Refusal) → line_check n c ≡ Err r → OfALine r
 unfolding line_check cycle_check
 line_gives n c r =
-    cond_elim (λ k. k ≡ Bad r → OfALine r) (ltb 15 c.outputs.hmaster)
+    cond_elim (λ k. k ≡ Err r → OfALine r) (ltb 15 c.outputs.hmaster)
     (λ none e. first_gives true false false false r e)
     (λ digit e.
     first_gives
@@ -91,14 +90,14 @@ line_gives n c r =
     r
     e)
 
-module _ {A : Type 0} (F : Format A) (n : ℕ) (gives : (a : A) (r : Refusal) → F.check n a ≡ Bad r → OfALine r) where
-  found_gives : (q : Place) (k : Check) (a : A) (next : ℕ) (r : Refusal) → ((r : Refusal) → k ≡ Bad r → OfALine r)
+module _ {A : Type 0} (F : Format A) (n : ℕ) (gives : (a : A) (r : Refusal) → F.check n a ≡ Err r → OfALine r) where
+  found_gives : (q : Place) (k : Check) (a : A) (next : ℕ) (r : Refusal) → ((r : Refusal) → k ≡ Err r → OfALine r)
       → found q k a next ≡ refused r → OfALine r
   found_gives beyond k a next r f e = let i : refusal.Shape ≡ r = cc in rw (← i) (omega arith)
   found_gives at_end k a next r f e = let z : ◌≡◌ {A = ℕ} 0 1 = cc in absurd (omega arith)
   found_gives cut k a next r f e = let i : refusal.Shape ≡ r = cc in rw (← i) (omega arith)
-  found_gives whole Good a next r f e = let z : ◌≡◌ {A = ℕ} 0 1 = cc in absurd (omega arith)
-  found_gives whole (Bad q) a next r f e = let i : q ≡ r = cc in rw (← i) (f q refl)
+  found_gives whole (Ok _) a next r f e = let z : ◌≡◌ {A = ℕ} 0 1 = cc in absurd (omega arith)
+  found_gives whole (Err q) a next r f e = let i : q ≡ r = cc in rw (← i) (f q refl)
 
   reading_gives : (s : List ℕ) (p : ℕ) (r : Refusal) → InRange n → reading F n s p ≡ refused r → OfALine r
   unfolding reading

@@ -4,6 +4,8 @@
 --   starts_take   == an input that starts with t, which has no byte 0, begins with its bytes
 --   header_reads  == a written header reads back, whatever comes after it
 --   header_writes == a header that was read writes back as the bytes that stood there
+use Rattle.rules.proofs.Parts.{ok_parts}
+use Rattle.std.specs.Prelude.{Err, Ok}
 use Prim.Native.Nat.{ℕ, zero, suc, ◌+◌, ◌-◌, ◌*◌, ◌/◌, ◌%◌, ◌≤◌, ◌<◌}
 use mathlib.Core.Path.{◌≡◌, refl, sym, ◌∙◌, ap, ap₂}
 use mathlib.Core.Bool.{Bool, true, false, false≢true}
@@ -18,8 +20,7 @@ use Rattle.rules.specs.State.{masters_ok}
 use Rattle.rules.proofs.Choice.{cond_elim, order, and_left, and_right, and_both}
 use Rattle.formats.specs.declared.Word.{Word}
 use Rattle.formats.specs.declared.Word.TheVariants.{Stim, Trace}
-use Rattle.formats.specs.declared.HeaderRead.{HeaderRead}
-use Rattle.formats.specs.declared.HeaderRead.TheVariants.{Header, Refused}
+use Rattle.formats.specs.Results.{HeaderRead}
 use Rattle.formats.specs.Digits.{lf, decimal}
 use Rattle.formats.specs.Headers.{prefix, header, same_to, starts_with, one_digit, two_digits, ranged, number_in, read_header_of}
 use Rattle.formats.specs.Promises.{Each, InRange}
@@ -51,13 +52,13 @@ prefix_solid : (w : Word) → Each (λ b. 0 < b) (prefix w)
 prefix_solid Stim = omega arith
 prefix_solid Trace = omega arith
 
-ranged_ok : (m n next : ℕ) → m ≡ n → masters_ok n ≡ true → ranged m next ≡ Header n next
+ranged_ok : (m n next : ℕ) → m ≡ n → masters_ok n ≡ true → ranged m next ≡ Ok (n, next)
 ranged_ok m n next e ok = rw (e, ok)
 
 -- a header with the digits ds is read where its number is
 reads_digits : (w : Word) (n : ℕ) (ds rest : List ℕ) → decimal n ≡ ds
-    → number_in (prefix w ++ (ds ++ (lf ∷ rest))) (length (prefix w)) ≡ Header n (length (prefix w) + length (ds ++ (lf ∷ [])))
-    → read_header_of w (header w n ++ rest) ≡ Header n (length (header w n))
+    → number_in (prefix w ++ (ds ++ (lf ∷ rest))) (length (prefix w)) ≡ Ok (n, length (prefix w) + length (ds ++ (lf ∷ [])))
+    → read_header_of w (header w n ++ rest) ≡ Ok (n, length (header w n))
 unfolding read_header_of header
 reads_digits w n ds rest d e =
     rw (
@@ -69,14 +70,14 @@ reads_digits w n ds rest d e =
     ) e
 
 in_one : (t rest : List ℕ) (n : ℕ) → n < 10 → masters_ok n ≡ true
-    → number_in (t ++ ((48 + n) ∷ (lf ∷ rest))) (length t) ≡ Header n (length t + 2)
+    → number_in (t ++ ((48 + n) ∷ (lf ∷ rest))) (length t) ≡ Ok (n, length t + 2)
 unfolding number_in
 in_one t rest n h ok =
     rw (get_or-append_seam t (48 + n) (lf ∷ rest) 0, get_or-append-add t ((48 + n) ∷ (lf ∷ rest)) 1 0, digit_is n h)
     (ranged_ok (48 + n - 48) n (length t + 2) (omega arith) ok)
 
 in_two : (t rest : List ℕ) (n : ℕ) → 10 ≤ n → n < 100 → masters_ok n ≡ true
-    → number_in (t ++ ((48 + n / 10) ∷ ((48 + n % 10) ∷ (lf ∷ rest)))) (length t) ≡ Header n (length t + 3)
+    → number_in (t ++ ((48 + n / 10) ∷ ((48 + n % 10) ∷ (lf ∷ rest)))) (length t) ≡ Ok (n, length t + 3)
 unfolding number_in
 in_two t rest n h k ok =
     let high : ℕ = 48 + n / 10 in
@@ -94,7 +95,7 @@ in_two t rest n h k ok =
     (ranged_ok ((high - 48) * 10 + (low - 48)) n (length t + 3) (omega arith) ok)
 
 pub header_reads : (w : Word) (n : ℕ) (rest : List ℕ) → InRange n
-    → read_header_of w (header w n ++ rest) ≡ Header n (length (header w n))
+    → read_header_of w (header w n ++ rest) ≡ Ok (n, length (header w n))
 header_reads w n rest range =
     order 10 n
     (λ two.
@@ -125,13 +126,13 @@ two_is : (s : List ℕ) (p : ℕ) → two_digits s p ≡ true → Two s p
 two_is s p e = search (and_left, and_right, eqb-true, eqb-false, not-true) depth 9
 
 abbrev is_header : HeaderRead → Bool
-is_header (Header n next) = true
-is_header (Refused r) = false
+is_header (Ok (n, next)) = true
+is_header (Err r) = false
 
-ranged_is : (m q n next : ℕ) → ranged m q ≡ Header n next → InRange m × (m ≡ n) × (q ≡ next)
+ranged_is : (m q n next : ℕ) → ranged m q ≡ Ok (n, next) → InRange m × (m ≡ n) × (q ≡ next)
 ranged_is m q n next =
-    cond_elim (λ r. r ≡ Header n next → InRange m × (m ≡ n) × (q ≡ next)) (masters_ok m)
-    (λ ok e. (ok_range m ok, cc, cc))
+    cond_elim (λ r. r ≡ Ok (n, next) → InRange m × (m ≡ n) × (q ≡ next)) (masters_ok m)
+    (λ ok e. (ok_range m ok, (ok_parts e).0, (ok_parts e).1))
     (λ ok e. absurd (false≢true (ap is_header e)))
 
 -- the k bytes after the word are the digits of n and LF
@@ -148,7 +149,7 @@ module _ (w : Word) (s : List ℕ) (n next : ℕ) (starts : starts_with s (prefi
   abbrev p : ℕ
   p = length (prefix w)
 
-  wrote_one : One s p → ranged (get_or s p 0 - 48) (p + 2) ≡ Header n next → HeaderWrote w s n next
+  wrote_one : One s p → ranged (get_or s p 0 - 48) (p + 2) ≡ Ok (n, next) → HeaderWrote w s n next
   wrote_one o e =
       let a : ℕ = get_or s p 0 in
       let r = ranged_is (a - 48) (p + 2) n next e in
@@ -158,7 +159,7 @@ module _ (w : Word) (s : List ℕ) (n next : ℕ) (starts : starts_with s (prefi
       let bytes : decimal (a - 48) ++ (lf ∷ []) ≡ bytes_at 2 s p = rw (d, add-zero p, o.ends) in
       rw (← r.1, ← r.2) (wrote w s 2 (a - 48) starts r.0 (omega arith) bytes)
 
-  wrote_two : Two s p → ranged ((get_or s p 0 - 48) * 10 + (get_or s (p + 1) 0 - 48)) (p + 3) ≡ Header n next → HeaderWrote w s n next
+  wrote_two : Two s p → ranged ((get_or s p 0 - 48) * 10 + (get_or s (p + 1) 0 - 48)) (p + 3) ≡ Ok (n, next) → HeaderWrote w s n next
   wrote_two o e =
       let a : ℕ = get_or s p 0 in
       let b : ℕ = get_or s (p + 1) 0 in
@@ -174,7 +175,7 @@ module _ (w : Word) (s : List ℕ) (n next : ℕ) (starts : starts_with s (prefi
       let bytes : decimal m ++ (lf ∷ []) ≡ bytes_at 3 s p = rw (d, add-zero p, o.ends) in
       rw (← r.1, ← r.2) (wrote w s 3 m starts r.0 (omega arith) bytes)
 
-pub header_writes : (w : Word) (s : List ℕ) (n next : ℕ) → read_header_of w s ≡ Header n next → HeaderWrote w s n next
+pub header_writes : (w : Word) (s : List ℕ) (n next : ℕ) → read_header_of w s ≡ Ok (n, next) → HeaderWrote w s n next
 unfolding read_header_of number_in
 header_writes w s n next =
     cond_elim Written (starts_with s (prefix w))
@@ -188,4 +189,4 @@ header_writes w s n next =
     (λ other e. absurd (false≢true (ap is_header e)))
   where
     Written : HeaderRead → Type 0
-    Written r = r ≡ Header n next → HeaderWrote w s n next
+    Written r = r ≡ Ok (n, next) → HeaderWrote w s n next

@@ -7,6 +7,7 @@
 --   valid_stimulus_fits, valid_trace_fits == what is valid fits
 --   valid_line, line_valid == the check of a trace line is that of a cycle, for which HMASTER is one hex digit
 --   stimulus_unfit, trace_unfit == what does not fit is refused by 4
+use Rattle.std.specs.Prelude.{Err, Ok}
 use Prim.Native.Nat.{ℕ, ◌≤◌, ◌<◌}
 use mathlib.Core.Path.{◌≡◌, refl}
 use mathlib.Core.Bool.{true, false, true≢false}
@@ -14,8 +15,7 @@ use native.Mathlib.Omega.{arith}
 use borrow.Author.Tests.{leb-true, leb-false, ltb-false, lt-leb, ne_eqb}
 use lib.Dec.{leb}
 use Rattle.rules.specs.declared.Refusal.TheVariants as refusal
-use Rattle.rules.specs.declared.Check.{Check}
-use Rattle.rules.specs.declared.Check.TheVariants.{Good, Bad}
+use Rattle.rules.specs.Results.{Check}
 use Rattle.rules.specs.declared.Inputs.{Inputs}
 use Rattle.rules.specs.declared.Outputs.{Outputs}
 use Rattle.rules.specs.declared.Cycle.{Cycle}
@@ -79,15 +79,15 @@ pub trace_fits : (c : Cycle) → SmallInputs c.inputs → SmallOutputs c.outputs
     → Fits trace_fields (cycle_values c)
 trace_fits c small_inputs small_outputs owner = omega arith
 
-pub valid_stimulus_fits : (n : ℕ) (x : Inputs) → inputs_check n x ≡ Good → Fits stimulus_fields (input_values x)
+pub valid_stimulus_fits : (n : ℕ) (x : Inputs) → inputs_check n x ≡ Ok tt → Fits stimulus_fields (input_values x)
 unfolding inputs_check
 valid_stimulus_fits n x e =
     stimulus_fits x (inputs_small x (passed (inputs_too_large x) (inputs_not_built x) (inputs_absent n x) false e).value)
 
-owner_below : (n : ℕ) (c : Cycle) → cycle_check n c ≡ Good → c.outputs.hmaster < n
+owner_below : (n : ℕ) (c : Cycle) → cycle_check n c ≡ Ok tt → c.outputs.hmaster < n
 owner_below n c e = leb-false n c.outputs.hmaster (cycle_passed n c e).owner
 
-pub valid_trace_fits : (n : ℕ) (c : Cycle) → n ≤ most_masters → cycle_check n c ≡ Good → Fits trace_fields (cycle_values c)
+pub valid_trace_fits : (n : ℕ) (c : Cycle) → n ≤ most_masters → cycle_check n c ≡ Ok tt → Fits trace_fields (cycle_values c)
 valid_trace_fits n c many e =
     let value = (cycle_passed n c e).value in
     trace_fits c
@@ -97,29 +97,29 @@ valid_trace_fits n c many e =
 
 -- a number that is no hex digit is refused by 4 in HMASTER too
 line_elim : (P : Check → Type 0) (n : ℕ) (c : Cycle)
-    → (16 ≤ c.outputs.hmaster → P (Bad refusal.Value)) → (c.outputs.hmaster < 16 → P (cycle_check n c)) → P (line_check n c)
+    → (16 ≤ c.outputs.hmaster → P (Err refusal.Value)) → (c.outputs.hmaster < 16 → P (cycle_check n c)) → P (line_check n c)
 unfolding line_check
 line_elim P n c none digit = below P 15 c.outputs.hmaster none (λ h. digit (omega arith))
 
-pub valid_line : (n : ℕ) (c : Cycle) → n ≤ most_masters → cycle_check n c ≡ Good → line_check n c ≡ Good
+pub valid_line : (n : ℕ) (c : Cycle) → n ≤ most_masters → cycle_check n c ≡ Ok tt → line_check n c ≡ Ok tt
 valid_line n c many e =
-    line_elim (λ k. k ≡ Good) n c (λ none. absurd (omega (arith, owner_below n c e))) (λ digit. e)
+    line_elim (λ k. k ≡ Ok tt) n c (λ none. absurd (omega (arith, owner_below n c e))) (λ digit. e)
 
-pub line_valid : (n : ℕ) (c : Cycle) → line_check n c ≡ Good → cycle_check n c ≡ Good
+pub line_valid : (n : ℕ) (c : Cycle) → line_check n c ≡ Ok tt → cycle_check n c ≡ Ok tt
 line_valid n c =
-    line_elim (λ k. k ≡ Good → cycle_check n c ≡ Good) n c
+    line_elim (λ k. k ≡ Ok tt → cycle_check n c ≡ Ok tt) n c
     (λ none e. let z : ◌≡◌ {A = ℕ} 0 1 = cc in absurd (omega arith))
     (λ digit e. e)
 
-pub stimulus_unfit : (n : ℕ) (x : Inputs) → (Fits stimulus_fields (input_values x) → ⊥) → inputs_check n x ≡ Bad refusal.Value
+pub stimulus_unfit : (n : ℕ) (x : Inputs) → (Fits stimulus_fields (input_values x) → ⊥) → inputs_check n x ≡ Err refusal.Value
 unfolding inputs_check
 stimulus_unfit n x unfit =
     either (inputs_too_large x) (λ large. rw large) (λ small. absurd (unfit (stimulus_fits x (inputs_small x small))))
 
-pub trace_unfit : (n : ℕ) (c : Cycle) → (Fits trace_fields (cycle_values c) → ⊥) → line_check n c ≡ Bad refusal.Value
+pub trace_unfit : (n : ℕ) (c : Cycle) → (Fits trace_fields (cycle_values c) → ⊥) → line_check n c ≡ Err refusal.Value
 unfolding cycle_check
 trace_unfit n c unfit =
-    line_elim (λ k. k ≡ Bad refusal.Value) n c
+    line_elim (λ k. k ≡ Err refusal.Value) n c
     (λ none. refl)
     (λ digit.
     either (inputs_too_large c.inputs)

@@ -3,6 +3,7 @@
 --   stimulus, trace == the two formats
 --   stimulus_reading, trace_reading == their readers are `reading` of them
 --   stimulus_answer_lem, trace_answer_lem == an answer of `reading`, as the reader gives it
+use Rattle.std.specs.Prelude.{Err, None, Ok, Some}
 use Prim.Native.Nat.{ℕ, ◌+◌}
 use mathlib.Core.Path.{◌≡◌, refl, sym, ◌∙◌, ap}
 use mathlib.Core.Bool.{Bool, true, false, cond}
@@ -11,16 +12,12 @@ use native.Mathlib.Nat.{add_assoc}
 use native.Mathlib.Omega.{arith}
 use lib.ListN.{get_or}
 use Rattle.rules.specs.declared.Refusal.TheVariants as refusal
-use Rattle.rules.specs.declared.Check.{Check}
-use Rattle.rules.specs.declared.Check.TheVariants.{Good, Bad}
+use Rattle.rules.specs.Results.{Check}
 use Rattle.rules.specs.declared.Inputs.{Inputs}
 use Rattle.rules.specs.declared.Cycle.{Cycle}
 use Rattle.rules.specs.State.{masters_ok}
 use Rattle.rules.specs.Valid.{inputs_check}
-use Rattle.formats.specs.declared.StimulusRead.{StimulusRead}
-use Rattle.formats.specs.declared.StimulusRead.TheVariants as stim
-use Rattle.formats.specs.declared.TraceRead.{TraceRead}
-use Rattle.formats.specs.declared.TraceRead.TheVariants as tra
+use Rattle.formats.specs.Results.{StimulusRead, TraceRead}
 use Rattle.formats.specs.Columns.{input_values, cycle_values}
 use Rattle.formats.specs.Fields.{width}
 use Rattle.formats.specs.Lines.{Place, beyond, at_end, cut, whole, place, stimulus_fields, trace_fields, inputs_at, cycle_at, line_check, stimulus_checked, stimulus_in, read_stimulus_of, trace_checked, trace_in, read_trace_of}
@@ -86,11 +83,11 @@ trace =
 
 module _ (n : ℕ) (s : List ℕ) (p : ℕ) where
   stimulus_checked_lem : (k : Check) → as_stimulus (stimulus_checked k s p) ≡ found whole k (inputs_at s p) (p + width stimulus_fields)
-  stimulus_checked_lem Good = refl
-  stimulus_checked_lem (Bad r) = refl
+  stimulus_checked_lem (Ok _) = refl
+  stimulus_checked_lem (Err r) = refl
 
   stimulus_found : (ok : Bool) (q : Place)
-      → as_stimulus (cond ok (stimulus_in q n s p) (stim.Refused refusal.Masters))
+      → as_stimulus (cond ok (stimulus_in q n s p) (Err refusal.Masters))
       ≡ cond ok (found q (inputs_check n (inputs_at s p)) (inputs_at s p) (p + width stimulus_fields)) (refused refusal.Masters)
   stimulus_found false q = refl
   stimulus_found true beyond = refl
@@ -103,11 +100,11 @@ module _ (n : ℕ) (s : List ℕ) (p : ℕ) where
   stimulus_reading = stimulus_found (masters_ok n) (place stimulus_fields s p)
 
   trace_checked_lem : (k : Check) → as_trace (trace_checked k s p) ≡ found whole k (cycle_at s p) (p + width trace_fields)
-  trace_checked_lem Good = refl
-  trace_checked_lem (Bad r) = refl
+  trace_checked_lem (Ok _) = refl
+  trace_checked_lem (Err r) = refl
 
   trace_found : (ok : Bool) (q : Place)
-      → as_trace (cond ok (trace_in q n s p) (tra.Refused refusal.Masters))
+      → as_trace (cond ok (trace_in q n s p) (Err refusal.Masters))
       ≡ cond ok (found q (line_check n (cycle_at s p)) (cycle_at s p) (p + width trace_fields)) (refused refusal.Masters)
   trace_found false q = refl
   trace_found true beyond = refl
@@ -120,28 +117,28 @@ module _ (n : ℕ) (s : List ℕ) (p : ℕ) where
   trace_reading = trace_found (masters_ok n) (place trace_fields s p)
 
 abbrev pub stimulus_read : Line Inputs → StimulusRead
-stimulus_read (one x next) = stim.Line x next
-stimulus_read no_more = stim.NoMore
-stimulus_read (refused r) = stim.Refused r
+stimulus_read (one x next) = Ok (Some (x, next))
+stimulus_read no_more = Ok None
+stimulus_read (refused r) = Err r
 
 stimulus_back : (r : StimulusRead) → stimulus_read (as_stimulus r) ≡ r
-stimulus_back (stim.Line x next) = refl
-stimulus_back stim.NoMore = refl
-stimulus_back (stim.Refused r) = refl
+stimulus_back (Ok (Some (x, next))) = refl
+stimulus_back (Ok None) = refl
+stimulus_back (Err r) = refl
 
 pub stimulus_answer_lem : (n : ℕ) (s : List ℕ) (p : ℕ) (l : Line Inputs) → reading stimulus n s p ≡ l
     → read_stimulus_of n s p ≡ stimulus_read l
 stimulus_answer_lem n s p l e = sym (stimulus_back (read_stimulus_of n s p)) ∙ ap stimulus_read (stimulus_reading n s p ∙ e)
 
 abbrev pub trace_read : Line Cycle → TraceRead
-trace_read (one c next) = tra.Line c next
-trace_read no_more = tra.NoMore
-trace_read (refused r) = tra.Refused r
+trace_read (one c next) = Ok (Some (c, next))
+trace_read no_more = Ok None
+trace_read (refused r) = Err r
 
 trace_back : (r : TraceRead) → trace_read (as_trace r) ≡ r
-trace_back (tra.Line c next) = refl
-trace_back tra.NoMore = refl
-trace_back (tra.Refused r) = refl
+trace_back (Ok (Some (c, next))) = refl
+trace_back (Ok None) = refl
+trace_back (Err r) = refl
 
 pub trace_answer_lem : (n : ℕ) (s : List ℕ) (p : ℕ) (l : Line Cycle) → reading trace n s p ≡ l
     → read_trace_of n s p ≡ trace_read l

@@ -1,11 +1,11 @@
 -- The promises of specs/Promises.antt, each under its name.
+use Rattle.std.specs.Prelude.{Ok}
 use Prim.Native.Nat.{ℕ, ◌^◌, ◌<◌}
 use mathlib.Core.Path.{◌≡◌, refl, sym, ◌∙◌, ap}
 use mathlib.Core.List.{List, [], ◌∷◌, ◌++◌, append_cancel_left}
 use native.Mathlib.Omega.{arith}
 use lib.ListN.{length}
 use Rattle.rules.specs.declared.Refusal.TheVariants as refusal
-use Rattle.rules.specs.declared.Check.TheVariants.{Good}
 use Rattle.rules.specs.Refusals.{number_of}
 use Rattle.rules.specs.Valid.{inputs_check, cycle_check}
 use Rattle.formats.specs.declared.Word.{Word}
@@ -195,8 +195,8 @@ pub buffers_kept : promise.BuffersKept
 unfolding write_header_of header_written write_stimulus_of stimulus_written write_trace_of trace_written
 buffers_kept =
     record {
-      header_line = λ w n buffer. writes (for_masters n Good) (header w n) buffer;
+      header_line = λ w n buffer. writes (for_masters n (Ok tt)) (header w n) buffer;
       stimulus_line_lem = λ n x buffer. writes (for_masters n (inputs_check n x)) (stimulus_line x) buffer;
       trace_line_lem = λ n c buffer. writes (for_masters n (cycle_check n c)) (trace_line c) buffer;
-      report_line = λ l buffer. writes Good l buffer;
+      report_line = λ l buffer. writes (Ok tt) l buffer;
     }

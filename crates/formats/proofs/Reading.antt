@@ -11,6 +11,7 @@
 --   reads_end, end_read, end_range == there is no more line exactly at the end of the input, once n is tested
 --   cut_refused     == a line that is cut is refused by 3
 --   unread_refused  == a line with a character that is no hex digit is refused by 4
+use Rattle.std.specs.Prelude.{Err, Ok}
 use Prim.Native.Nat.{ℕ, ◌+◌, ◌-◌, ◌≤◌, ◌<◌}
 use mathlib.Core.Path.{◌≡◌, refl, sym, ◌∙◌, ap}
 use mathlib.Core.Bool.{Bool, true, false, cond, true≢false, false≢true}
@@ -20,8 +21,7 @@ use borrow.Author.Tests.{eqb-true, lt-ltb, le-ltb, eq-eqb, ne_eqb}
 use lib.Dec.{eqb}
 use lib.ListN.{length, take, drop, length-append}
 use Rattle.rules.specs.declared.Refusal.TheVariants as refusal
-use Rattle.rules.specs.declared.Check.{Check}
-use Rattle.rules.specs.declared.Check.TheVariants.{Good, Bad}
+use Rattle.rules.specs.Results.{Check}
 use Rattle.rules.specs.State.{masters_ok}
 use Rattle.rules.proofs.Choice.{cond_elim}
 use Rattle.formats.specs.Fields.{Field, width, write, parted, values}
@@ -86,11 +86,11 @@ pub record Format (A : Type 0) : Type 0 where
   pub same : (a b : A) → columns a ≡ columns b → a ≡ b
   pub stands : (s : List ℕ) (p : ℕ) → columns (at s p) ≡ values fields s p
   -- what passes the check fits, and what does not fit is refused by 4
-  pub fits : (n : ℕ) (a : A) → InRange n → check n a ≡ Good → Fits fields (columns a)
-  pub unfit : (n : ℕ) (a : A) → (Fits fields (columns a) → ⊥) → check n a ≡ Bad refusal.Value
+  pub fits : (n : ℕ) (a : A) → InRange n → check n a ≡ Ok tt → Fits fields (columns a)
+  pub unfit : (n : ℕ) (a : A) → (Fits fields (columns a) → ⊥) → check n a ≡ Err refusal.Value
 
 abbrev pub Valid : {A : Type 0} → Format A → ℕ → A → Type 0
-Valid F n a = F.check n a ≡ Good
+Valid F n a = F.check n a ≡ Ok tt
 
 abbrev pub line_of : {A : Type 0} → Format A → A → List ℕ
 line_of F a = write F.fields (F.columns a)
@@ -106,8 +106,8 @@ module _ {A : Type 0} where
   found beyond k a next = refused refusal.Shape
   found at_end k a next = no_more
   found cut k a next = refused refusal.Shape
-  found whole Good a next = one a next
-  found whole (Bad r) a next = refused r
+  found whole (Ok _) a next = one a next
+  found whole (Err r) a next = refused r
 
   abbrev is_one : Line A → Bool
   is_one (one a next) = true
@@ -119,13 +119,13 @@ module _ {A : Type 0} where
   is_more no_more = false
   is_more (refused r) = true
 
-  checked : (k : Check) (a b : A) (m next : ℕ) → found whole k a m ≡ one b next → (k ≡ Good) × (a ≡ b) × (m ≡ next)
-  checked Good a b m next e = (refl, cc, cc)
-  checked (Bad r) a b m next e = absurd (false≢true (ap is_one e))
+  checked : (k : Check) (a b : A) (m next : ℕ) → found whole k a m ≡ one b next → (k ≡ Ok tt) × (a ≡ b) × (m ≡ next)
+  checked (Ok _) a b m next e = (refl, cc, cc)
+  checked (Err r) a b m next e = absurd (false≢true (ap is_one e))
 
   checked_more : (k : Check) (a : A) (m : ℕ) → found whole k a m ≡ no_more → ⊥
-  checked_more Good a m e = true≢false (ap is_more e)
-  checked_more (Bad r) a m e = true≢false (ap is_more e)
+  checked_more (Ok _) a m e = true≢false (ap is_more e)
+  checked_more (Err r) a m e = true≢false (ap is_more e)
 
 pub record Wrote {A : Type 0} (F : Format A) (n : ℕ) (s : List ℕ) (p : ℕ) (a : A) (next : ℕ) : Type 0 where
   pub range : InRange n
@@ -221,6 +221,6 @@ module _ {A : Type 0} (F : Format A) (n : ℕ) where
       → reading s p ≡ refused refusal.Value
   unfolding reading
   unread_refused s p range w u =
-      let bad : F.check n (F.at s p) ≡ Bad refusal.Value =
+      let bad : F.check n (F.at s p) ≡ Err refusal.Value =
       F.unfit n (F.at s p) (λ fit. unread_unfit F.fields s p u (rw (F.stands s p) at fit)) in
       rw (range_ok n range, place_whole F.fields s p F.some w, bad)

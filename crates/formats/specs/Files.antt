@@ -3,17 +3,12 @@
 --   stimulus_file n xs, trace_file n cs == the bytes of a file
 --   read_stimulus_file s, read_trace_file s == what reading a file from its start to its end finds
 --   lines_from read k p                 == the lines that a reader finds from p on
-use Rattle.std.specs.Prelude.{ℕ, zero, suc, ◌+◌, List, [], ◌∷◌, ◌++◌, length}
+use Rattle.std.specs.Prelude.{ℕ, zero, suc, ◌+◌, List, [], ◌∷◌, ◌++◌, length, Err, None, Ok, Some}
 use Rattle.rules.specs.declared.Refusal.{Refusal}
 use Rattle.rules.specs.declared.Inputs.{Inputs}
 use Rattle.rules.specs.declared.Cycle.{Cycle}
 use Rattle.formats.specs.declared.Word.TheVariants.{Stim, Trace}
-use Rattle.formats.specs.declared.HeaderRead.{HeaderRead}
-use Rattle.formats.specs.declared.HeaderRead.TheVariants as head
-use Rattle.formats.specs.declared.StimulusRead.{StimulusRead}
-use Rattle.formats.specs.declared.StimulusRead.TheVariants as stimulus
-use Rattle.formats.specs.declared.TraceRead.{TraceRead}
-use Rattle.formats.specs.declared.TraceRead.TheVariants as trace
+use Rattle.formats.specs.Results.{HeaderRead, StimulusRead, TraceRead}
 use Rattle.formats.specs.Lines.{stimulus_line, trace_line, read_stimulus_of, read_trace_of}
 use Rattle.formats.specs.Headers.{header, read_header_of}
 
@@ -36,14 +31,14 @@ pub data Line (A : Type 0) : Type 0 where
   refused : Refusal → Line A
 
 abbrev pub as_stimulus : StimulusRead → Line Inputs
-as_stimulus (stimulus.Line x next) = one x next
-as_stimulus stimulus.NoMore = no_more
-as_stimulus (stimulus.Refused r) = refused r
+as_stimulus (Ok (Some (x, next))) = one x next
+as_stimulus (Ok None) = no_more
+as_stimulus (Err r) = refused r
 
 abbrev pub as_trace : TraceRead → Line Cycle
-as_trace (trace.Line c next) = one c next
-as_trace trace.NoMore = no_more
-as_trace (trace.Refused r) = refused r
+as_trace (Ok (Some (c, next))) = one c next
+as_trace (Ok None) = no_more
+as_trace (Err r) = refused r
 
 -- lines that end, or that stop at a refusal after some of them
 pub data Lines (A : Type 0) : Type 0 where
@@ -74,8 +69,8 @@ file_of n (ended l) = complete n l
 file_of n (stopped l r) = refused_at (length l + 2) r
 
 abbrev pub after_header : {A : Type 0} → HeaderRead → (ℕ → ℕ → Lines A) → File A
-after_header (head.Header n p) lines = file_of n (lines n p)
-after_header (head.Refused r) lines = refused_at 1 r
+after_header (Ok (n, p)) lines = file_of n (lines n p)
+after_header (Err r) lines = refused_at 1 r
 
 unfoldable pub read_stimulus_file : List ℕ → File Inputs
 read_stimulus_file s =

@@ -5,15 +5,12 @@
 --   header w n         == the bytes of a header
 --   read_header_of w s == the answer of reading a header of the word w at the start of s
 --   write_header_of, header_written == the answer of writing one, and the buffer afterwards
-use Rattle.std.specs.Prelude.{ℕ, zero, suc, ◌+◌, ◌-◌, ◌*◌, Bool, true, not, ◌&&◌, cond, List, [], ◌∷◌, ◌++◌, eqb, leb, length, get_or}
+use Rattle.std.specs.Prelude.{ℕ, zero, suc, ◌+◌, ◌-◌, ◌*◌, Bool, true, not, ◌&&◌, cond, List, [], ◌∷◌, ◌++◌, eqb, leb, length, get_or, Err, Ok}
 use Rattle.rules.specs.declared.Refusal.TheVariants as refusal
-use Rattle.rules.specs.declared.Check.TheVariants.{Good}
 use Rattle.rules.specs.State.{masters_ok}
 use Rattle.formats.specs.declared.Word.{Word}
 use Rattle.formats.specs.declared.Word.TheVariants.{Stim, Trace}
-use Rattle.formats.specs.declared.HeaderRead.{HeaderRead}
-use Rattle.formats.specs.declared.HeaderRead.TheVariants.{Header, Refused}
-use Rattle.formats.specs.declared.Written.{Written}
+use Rattle.formats.specs.Results.{HeaderRead, Written}
 use Rattle.formats.specs.Digits.{tab, lf, decimal}
 use Rattle.formats.specs.Lines.{fitted, for_masters, left}
 
@@ -49,21 +46,21 @@ two_digits s p =
 
 -- 1 where the number is not 2 to 16
 abbrev pub ranged : ℕ → ℕ → HeaderRead
-ranged n next = cond (masters_ok n) (Header n next) (Refused refusal.Masters)
+ranged n next = cond (masters_ok n) (Ok (n, next)) (Err refusal.Masters)
 
 unfoldable pub number_in : List ℕ → ℕ → HeaderRead
 number_in s p =
     cond (one_digit s p) (ranged (get_or s p 0 - 48) (p + 2))
     (cond (two_digits s p)
     (ranged ((get_or s p 0 - 48) * 10 + (get_or s (p + 1) 0 - 48)) (p + 3))
-    (Refused refusal.Header))
+    (Err refusal.Header))
 
 unfoldable pub read_header_of : Word → List ℕ → HeaderRead
 read_header_of w s =
-    cond (starts_with s (prefix w)) (number_in s (length (prefix w))) (Refused refusal.Header)
+    cond (starts_with s (prefix w)) (number_in s (length (prefix w))) (Err refusal.Header)
 
 unfoldable pub write_header_of : Word → ℕ → ℕ → Written
-write_header_of w n room = fitted (for_masters n Good) (length (header w n)) room
+write_header_of w n room = fitted (for_masters n (Ok tt)) (length (header w n)) room
 
 unfoldable pub header_written : Word → ℕ → List ℕ → List ℕ
 header_written w n buffer = left (write_header_of w n (length buffer)) (header w n) buffer

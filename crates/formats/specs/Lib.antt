@@ -1,5 +1,6 @@
 -- The lines of document 01: the numbers of the answers, digits, columns, lines, headers, the report, and whole files; texts to
 -- compare with the page, what is promised of them all, the round trips through the writers, and which number each refusal has.
+pub mod Results
 pub mod Answers
 pub mod Digits
 pub mod Columns

@@ -9,21 +9,15 @@
 --   read_stimulus_of, read_trace_of == the answer of reading a line at a position
 --   write_stimulus_of, write_trace_of == the answer of writing one into a buffer of some length
 --   stimulus_written, trace_written   == the buffer afterwards: the line and the rest untouched, or all unchanged
-use Rattle.std.specs.Prelude.{ℕ, ◌+◌, ◌-◌, cond, List, ◌++◌, eqb, ltb, length, drop}
+use Rattle.std.specs.Prelude.{ℕ, ◌+◌, ◌-◌, cond, List, ◌++◌, eqb, ltb, length, drop, Err, None, Ok, Some}
 use Rattle.rules.specs.declared.Refusal.TheVariants as refusal
-use Rattle.rules.specs.declared.Check.{Check}
-use Rattle.rules.specs.declared.Check.TheVariants.{Good, Bad}
+use Rattle.rules.specs.Results.{Check}
 use Rattle.rules.specs.declared.Inputs.{Inputs}
 use Rattle.rules.specs.declared.Outputs.{Outputs}
 use Rattle.rules.specs.declared.Cycle.{Cycle}
 use Rattle.rules.specs.State.{masters_ok}
 use Rattle.rules.specs.Valid.{inputs_check, cycle_check}
-use Rattle.formats.specs.declared.StimulusRead.{StimulusRead}
-use Rattle.formats.specs.declared.StimulusRead.TheVariants as stimulus
-use Rattle.formats.specs.declared.TraceRead.{TraceRead}
-use Rattle.formats.specs.declared.TraceRead.TheVariants as trace
-use Rattle.formats.specs.declared.Written.{Written}
-use Rattle.formats.specs.declared.Written.TheVariants.{Bytes, Refused}
+use Rattle.formats.specs.Results.{StimulusRead, TraceRead, Written}
 use Rattle.formats.specs.Digits.{number_at}
 use Rattle.formats.specs.Columns.{input_columns, cycle_columns, input_values, cycle_values}
 use Rattle.formats.specs.Fields.{Field, fields, width, write, parted}
@@ -61,7 +55,7 @@ cycle_at s p = record { inputs = inputs_at s p; outputs = outputs_at s p }
 
 -- 4 is given for a character that is no hex digit: in every column but HMASTER the number that stands for it is too large already
 unfoldable pub line_check : ℕ → Cycle → Check
-line_check n c = cond (ltb 15 c.outputs.hmaster) (Bad refusal.Value) (cycle_check n c)
+line_check n c = cond (ltb 15 c.outputs.hmaster) (Err refusal.Value) (cycle_check n c)
 
 -- what there is at a position, before its characters are looked at
 pub data Place : Type 0 where
@@ -78,32 +72,32 @@ place fs s p =
     (cond (ltb (length s - p) (width fs)) cut (cond (parted fs s p) whole cut)))
 
 abbrev pub stimulus_checked : Check → List ℕ → ℕ → StimulusRead
-stimulus_checked Good s p = stimulus.Line (inputs_at s p) (p + width stimulus_fields)
-stimulus_checked (Bad r) s p = stimulus.Refused r
+stimulus_checked (Ok _) s p = Ok (Some (inputs_at s p, p + width stimulus_fields))
+stimulus_checked (Err r) s p = Err r
 
 abbrev pub stimulus_in : Place → ℕ → List ℕ → ℕ → StimulusRead
-stimulus_in beyond n s p = stimulus.Refused refusal.Shape
-stimulus_in at_end n s p = stimulus.NoMore
-stimulus_in cut n s p = stimulus.Refused refusal.Shape
+stimulus_in beyond n s p = Err refusal.Shape
+stimulus_in at_end n s p = Ok None
+stimulus_in cut n s p = Err refusal.Shape
 stimulus_in whole n s p = stimulus_checked (inputs_check n (inputs_at s p)) s p
 
 unfoldable pub read_stimulus_of : ℕ → List ℕ → ℕ → StimulusRead
 read_stimulus_of n s p =
-    cond (masters_ok n) (stimulus_in (place stimulus_fields s p) n s p) (stimulus.Refused refusal.Masters)
+    cond (masters_ok n) (stimulus_in (place stimulus_fields s p) n s p) (Err refusal.Masters)
 
 abbrev pub trace_checked : Check → List ℕ → ℕ → TraceRead
-trace_checked Good s p = trace.Line (cycle_at s p) (p + width trace_fields)
-trace_checked (Bad r) s p = trace.Refused r
+trace_checked (Ok _) s p = Ok (Some (cycle_at s p, p + width trace_fields))
+trace_checked (Err r) s p = Err r
 
 abbrev pub trace_in : Place → ℕ → List ℕ → ℕ → TraceRead
-trace_in beyond n s p = trace.Refused refusal.Shape
-trace_in at_end n s p = trace.NoMore
-trace_in cut n s p = trace.Refused refusal.Shape
+trace_in beyond n s p = Err refusal.Shape
+trace_in at_end n s p = Ok None
+trace_in cut n s p = Err refusal.Shape
 trace_in whole n s p = trace_checked (line_check n (cycle_at s p)) s p
 
 unfoldable pub read_trace_of : ℕ → List ℕ → ℕ → TraceRead
 read_trace_of n s p =
-    cond (masters_ok n) (trace_in (place trace_fields s p) n s p) (trace.Refused refusal.Masters)
+    cond (masters_ok n) (trace_in (place trace_fields s p) n s p) (Err refusal.Masters)
 
 -- the bytes of the two lines
 abbrev pub stimulus_line : Inputs → List ℕ
@@ -114,17 +108,17 @@ trace_line c = write trace_fields (cycle_values c)
 
 -- the answer of writing k bytes that passed the tests so far into a buffer of length room
 abbrev pub fitted : Check → ℕ → ℕ → Written
-fitted Good k room = cond (ltb room k) (Refused refusal.Short) (Bytes k)
-fitted (Bad r) k room = Refused r
+fitted (Ok _) k room = cond (ltb room k) (Err refusal.Short) (Ok k)
+fitted (Err r) k room = Err r
 
 -- the check of a writer: 1 before 4 to 7
 abbrev pub for_masters : ℕ → Check → Check
-for_masters n k = cond (masters_ok n) k (Bad refusal.Masters)
+for_masters n k = cond (masters_ok n) k (Err refusal.Masters)
 
 -- what a writer leaves in the buffer: its bytes from the start on, and the rest as it was; on a refusal all as it was
 abbrev pub left : Written → List ℕ → List ℕ → List ℕ
-left (Bytes k) bytes buffer = bytes ++ drop k buffer
-left (Refused r) bytes buffer = buffer
+left (Ok k) bytes buffer = bytes ++ drop k buffer
+left (Err r) bytes buffer = buffer
 
 unfoldable pub write_stimulus_of : ℕ → Inputs → ℕ → Written
 write_stimulus_of n x room = fitted (for_masters n (inputs_check n x)) (width stimulus_fields) room

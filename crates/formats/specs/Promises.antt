@@ -13,10 +13,9 @@
 --   InDecimal v l == l is the number v in decimal, with no leading zero
 --   OneLine l     == the bytes l are one line: LF ends it, and stands nowhere else
 --   Writes l buffer a after == a writer of the bytes l answers a and leaves `after` in the buffer
-use Rattle.std.specs.Prelude.{ℕ, ◌+◌, ◌-◌, ◌*◌, ◌^◌, ◌≤◌, ◌<◌, ◌≡◌, ◌⊎◌, ◌↔◌, true, List, [], ◌∷◌, ◌++◌, map, length, get_or, take, drop}
+use Rattle.std.specs.Prelude.{ℕ, ◌+◌, ◌-◌, ◌*◌, ◌^◌, ◌≤◌, ◌<◌, ◌≡◌, ◌⊎◌, ◌↔◌, true, List, [], ◌∷◌, ◌++◌, map, length, get_or, take, drop, Err, None, Ok, Some}
 use Rattle.rules.specs.declared.Refusal.{Refusal}
 use Rattle.rules.specs.declared.Refusal.TheVariants as refusal
-use Rattle.rules.specs.declared.Check.TheVariants.{Good}
 use Rattle.rules.specs.declared.Inputs.{Inputs}
 use Rattle.rules.specs.declared.Cycle.{Cycle}
 use Rattle.rules.specs.Refusals.{number_of}
@@ -26,14 +25,7 @@ use Rattle.rulebook.specs.declared.Rule.{Rule}
 use Rattle.rulebook.specs.Rules.{rules}
 use Rattle.formats.specs.declared.Word.{Word}
 use Rattle.formats.specs.declared.Word.TheVariants.{Stim, Trace}
-use Rattle.formats.specs.declared.HeaderRead.{HeaderRead}
-use Rattle.formats.specs.declared.HeaderRead.TheVariants as head
-use Rattle.formats.specs.declared.StimulusRead.{StimulusRead}
-use Rattle.formats.specs.declared.StimulusRead.TheVariants as stimulus
-use Rattle.formats.specs.declared.TraceRead.{TraceRead}
-use Rattle.formats.specs.declared.TraceRead.TheVariants as trace
-use Rattle.formats.specs.declared.Written.{Written}
-use Rattle.formats.specs.declared.Written.TheVariants as written
+use Rattle.formats.specs.Results.{HeaderRead, StimulusRead, TraceRead, Written}
 use Rattle.formats.specs.Answers.{header_answer, stimulus_answer, stimulus_ends, trace_answer, trace_ends, written_answer}
 use Rattle.formats.specs.Digits.{lf, hex_char, number_at, decimal}
 use Rattle.formats.specs.Fields.{Field}
@@ -52,17 +44,17 @@ Each P [] = Unit
 Each P (a ∷ l) = P a × Each P l
 
 abbrev pub ValidInputs : ℕ → Inputs → Type 0
-ValidInputs n x = inputs_check n x ≡ Good
+ValidInputs n x = inputs_check n x ≡ Ok tt
 
 abbrev pub ValidCycle : ℕ → Cycle → Type 0
-ValidCycle n c = cycle_check n c ≡ Good
+ValidCycle n c = cycle_check n c ≡ Ok tt
 
 -- "Every refusal returns its number", and no other answer has it.
 pub record RefusedByNumber : Type 0 where
-  pub header_read : (a : HeaderRead) (r : Refusal) → (header_answer a ≡ number_of r) ↔ (a ≡ head.Refused r)
-  pub stimulus_read_lem : (a : StimulusRead) (r : Refusal) → (stimulus_answer a ≡ number_of r) ↔ (a ≡ stimulus.Refused r)
-  pub trace_read_lem : (a : TraceRead) (r : Refusal) → (trace_answer a ≡ number_of r) ↔ (a ≡ trace.Refused r)
-  pub line_written : (a : Written) (r : Refusal) → (written_answer a ≡ number_of r) ↔ (a ≡ written.Refused r)
+  pub header_read : (a : HeaderRead) (r : Refusal) → (header_answer a ≡ number_of r) ↔ (a ≡ Err r)
+  pub stimulus_read_lem : (a : StimulusRead) (r : Refusal) → (stimulus_answer a ≡ number_of r) ↔ (a ≡ Err r)
+  pub trace_read_lem : (a : TraceRead) (r : Refusal) → (trace_answer a ≡ number_of r) ↔ (a ≡ Err r)
+  pub line_written : (a : Written) (r : Refusal) → (written_answer a ≡ number_of r) ↔ (a ≡ Err r)
 
 -- Lines.
 -- "A stimulus line has .. 16 bytes. A trace line adds ..: 31 bytes."
@@ -74,28 +66,28 @@ pub record LineLengths : Type 0 where
 abbrev pub WrittenStimulusLineReads : Type 0
 WrittenStimulusLineReads =
     (n : ℕ) (x : Inputs) (pre post : List ℕ) → InRange n → ValidInputs n x
-    → read_stimulus_of n (pre ++ (stimulus_line x ++ post)) (length pre) ≡ stimulus.Line x (length pre + 16)
+    → read_stimulus_of n (pre ++ (stimulus_line x ++ post)) (length pre) ≡ Ok (Some (x, length pre + 16))
 
 abbrev pub WrittenTraceLineReads : Type 0
 WrittenTraceLineReads =
     (n : ℕ) (c : Cycle) (pre post : List ℕ) → InRange n → ValidCycle n c
-    → read_trace_of n (pre ++ (trace_line c ++ post)) (length pre) ≡ trace.Line c (length pre + 31)
+    → read_trace_of n (pre ++ (trace_line c ++ post)) (length pre) ≡ Ok (Some (c, length pre + 31))
 
 -- A line read and written again has the same bytes; only a valid line is read.
 abbrev pub ReadStimulusLineWrites : Type 0
 ReadStimulusLineWrites =
-    (n : ℕ) (s : List ℕ) (p : ℕ) (x : Inputs) (next : ℕ) → read_stimulus_of n s p ≡ stimulus.Line x next
+    (n : ℕ) (s : List ℕ) (p : ℕ) (x : Inputs) (next : ℕ) → read_stimulus_of n s p ≡ Ok (Some (x, next))
     → InRange n × ValidInputs n x × (next ≡ p + 16) × (stimulus_line x ≡ take 16 (drop p s))
 
 abbrev pub ReadTraceLineWrites : Type 0
 ReadTraceLineWrites =
-    (n : ℕ) (s : List ℕ) (p : ℕ) (c : Cycle) (next : ℕ) → read_trace_of n s p ≡ trace.Line c next
+    (n : ℕ) (s : List ℕ) (p : ℕ) (c : Cycle) (next : ℕ) → read_trace_of n s p ≡ Ok (Some (c, next))
     → InRange n × ValidCycle n c × (next ≡ p + 31) × (trace_line c ≡ take 31 (drop p s))
 
 -- "Reading a line at a position equal to the input's length answers "no more lines", once n is tested; that is no refusal." No other reading does.
 pub record NoMoreAtTheEnd : Type 0 where
-  pub stimulus_line_lem : (n : ℕ) (s : List ℕ) → InRange n → read_stimulus_of n s (length s) ≡ stimulus.NoMore
-  pub trace_line_lem : (n : ℕ) (s : List ℕ) → InRange n → read_trace_of n s (length s) ≡ trace.NoMore
+  pub stimulus_line_lem : (n : ℕ) (s : List ℕ) → InRange n → read_stimulus_of n s (length s) ≡ Ok None
+  pub trace_line_lem : (n : ℕ) (s : List ℕ) → InRange n → read_trace_of n s (length s) ≡ Ok None
   pub stimulus_only : (n : ℕ) (s : List ℕ) (p : ℕ) → stimulus_ends (read_stimulus_of n s p) ≡ true → InRange n × (p ≡ length s)
   pub trace_only : (n : ℕ) (s : List ℕ) (p : ℕ) → trace_ends (read_trace_of n s p) ≡ true → InRange n × (p ≡ length s)
 
@@ -119,20 +111,20 @@ Unread (f ∷ fs) s p = NoDigit f.digits s p ⊎ Unread fs s (p + (f.digits + 1)
 -- 4: "a character its field doesn't allow". In HMASTER too, where a digit from n on is 7.
 pub record BadCharacterRefused : Type 0 where
   pub stimulus_line_lem : (n : ℕ) (s : List ℕ) (p : ℕ) → InRange n → place stimulus_fields s p ≡ whole → Unread stimulus_fields s p
-      → read_stimulus_of n s p ≡ stimulus.Refused refusal.Value
+      → read_stimulus_of n s p ≡ Err refusal.Value
   pub trace_line_lem : (n : ℕ) (s : List ℕ) (p : ℕ) → InRange n → place trace_fields s p ≡ whole → Unread trace_fields s p
-      → read_trace_of n s p ≡ trace.Refused refusal.Value
+      → read_trace_of n s p ≡ Err refusal.Value
 
 -- Headers.
 -- A written header reads back, whatever follows it; a header read and written again has the same bytes.
 abbrev pub WrittenHeaderReads : Type 0
 WrittenHeaderReads =
     (w : Word) (n : ℕ) (rest : List ℕ) → InRange n
-    → read_header_of w (header w n ++ rest) ≡ head.Header n (length (header w n))
+    → read_header_of w (header w n ++ rest) ≡ Ok (n, length (header w n))
 
 abbrev pub ReadHeaderWrites : Type 0
 ReadHeaderWrites =
-    (w : Word) (s : List ℕ) (n next : ℕ) → read_header_of w s ≡ head.Header n next
+    (w : Word) (s : List ℕ) (n next : ℕ) → read_header_of w s ≡ Ok (n, next)
     → InRange n × (next ≡ length (header w n)) × (header w n ≡ take next s)
 
 abbrev pub other_than : Word → Word
@@ -142,7 +134,7 @@ other_than Trace = Stim
 -- 2: "the header has .. the other word (`stim` for `trace`)"
 abbrev pub OtherWordRefused : Type 0
 OtherWordRefused =
-    (w : Word) (n : ℕ) (rest : List ℕ) → read_header_of (other_than w) (header w n ++ rest) ≡ head.Refused refusal.Header
+    (w : Word) (n : ℕ) (rest : List ℕ) → read_header_of (other_than w) (header w n ++ rest) ≡ Err refusal.Header
 
 -- The tables of specs/Texts.antt.
 pub record HeaderShapes : Type 0 where
@@ -172,13 +164,13 @@ ReadStimulusWrites =
 
 -- "line number (header is 1)": what is refused after the header and k valid lines is refused at line k + 2.
 pub record RefusedAtItsLine : Type 0 where
-  pub stimulus_header : (s : List ℕ) (r : Refusal) → read_header_of Stim s ≡ head.Refused r → read_stimulus_file s ≡ refused_at 1 r
-  pub trace_header : (s : List ℕ) (r : Refusal) → read_header_of Trace s ≡ head.Refused r → read_trace_file s ≡ refused_at 1 r
+  pub stimulus_header : (s : List ℕ) (r : Refusal) → read_header_of Stim s ≡ Err r → read_stimulus_file s ≡ refused_at 1 r
+  pub trace_header : (s : List ℕ) (r : Refusal) → read_header_of Trace s ≡ Err r → read_trace_file s ≡ refused_at 1 r
   pub stimulus_line_lem : (n : ℕ) (xs : List Inputs) (rest : List ℕ) (r : Refusal) → InRange n → Each (ValidInputs n) xs
-      → read_stimulus_of n (stimulus_file n xs ++ rest) (length (stimulus_file n xs)) ≡ stimulus.Refused r
+      → read_stimulus_of n (stimulus_file n xs ++ rest) (length (stimulus_file n xs)) ≡ Err r
       → read_stimulus_file (stimulus_file n xs ++ rest) ≡ refused_at (length xs + 2) r
   pub trace_line_lem : (n : ℕ) (cs : List Cycle) (rest : List ℕ) (r : Refusal) → InRange n → Each (ValidCycle n) cs
-      → read_trace_of n (trace_file n cs ++ rest) (length (trace_file n cs)) ≡ trace.Refused r
+      → read_trace_of n (trace_file n cs ++ rest) (length (trace_file n cs)) ≡ Err r
       → read_trace_file (trace_file n cs ++ rest) ≡ refused_at (length cs + 2) r
 
 -- Numbers and lines of the report.
@@ -231,7 +223,7 @@ pub record PrintedAsText : Type 0 where
 pub record Writes (l buffer : List ℕ) (answer : Written) (after : List ℕ) : Type 0 where
   pub same_length : length after ≡ length buffer
   pub refused : (written_answer answer ≡ 0 → ⊥) → after ≡ buffer
-  pub done : written_answer answer ≡ 0 → (answer ≡ written.Bytes (length l)) × (after ≡ l ++ drop (length l) buffer)
+  pub done : written_answer answer ≡ 0 → (answer ≡ Ok (length l)) × (after ≡ l ++ drop (length l) buffer)
 
 -- "Every refusal returns its number ..; no lent byte changes." So nothing has changed where the number is not 0; where it is 0, what
 -- is written stands at the start, and the rest is as it was.

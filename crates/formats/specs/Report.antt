@@ -5,13 +5,12 @@
 --   end_line k b     == `end`, tab, cycles, tab, breaches
 --   refused_line l r == `refused`, tab, line number, tab, refusal number
 --   write_of bytes room, written_of bytes buffer == the answer of writing one of them, and the buffer afterwards
-use Rattle.std.specs.Prelude.{ℕ, List, [], ◌∷◌, ◌++◌, length}
+use Rattle.std.specs.Prelude.{ℕ, List, [], ◌∷◌, ◌++◌, length, Ok}
 use Rattle.rules.specs.declared.Refusal.{Refusal}
-use Rattle.rules.specs.declared.Check.TheVariants.{Good}
 use Rattle.rules.specs.Refusals.{number_of}
 use Rattle.rulebook.specs.declared.Rule.{Rule}
 use Rattle.rulebook.specs.declared.Rule.TheVariants.{A1, A2, A3, A4, A5, A6, A7, A8, A9, G1, G2, G3, G4, G5, G6, G7, G8, G9, G10, G11, G12}
-use Rattle.formats.specs.declared.Written.{Written}
+use Rattle.formats.specs.Results.{Written}
 use Rattle.formats.specs.Digits.{tab, lf, decimal}
 use Rattle.formats.specs.Lines.{fitted, left}
 
@@ -85,7 +84,7 @@ unfoldable pub refused_line : ℕ → Refusal → List ℕ
 refused_line line r = refused_word ++ (decimal line ++ (tab ∷ (decimal (number_of r) ++ (lf ∷ []))))
 
 abbrev pub write_of : List ℕ → ℕ → Written
-write_of bytes room = fitted Good (length bytes) room
+write_of bytes room = fitted (Ok tt) (length bytes) room
 
 abbrev pub written_of : List ℕ → List ℕ → List ℕ
 written_of bytes buffer = left (write_of bytes (length buffer)) bytes buffer

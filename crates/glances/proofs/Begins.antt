@@ -3,10 +3,9 @@
 --   Parted fs s p   == each separator stands in its place, one by one; parted_true, true_parted: as the definitions say it
 --   Begins F n s a   == the input begins with a line of a
 --   line_reads, line_read == that line is read
-use Rattle.std.proofs.Common.{◌≡◌, ℕ, ◌+◌, ◌≤◌, true, eqb, List, [], ◌∷◌, length, get_or, refl, zero-add, arith, eq-eqb, eqb-true}
+use Rattle.std.proofs.Common.{◌≡◌, ℕ, ◌+◌, ◌≤◌, true, eqb, List, [], ◌∷◌, length, get_or, refl, zero-add, arith, eq-eqb, eqb-true, Err, Ok}
 use Rattle.rules.specs.declared.Refusal.{Refusal}
-use Rattle.rules.specs.declared.Check.{Check}
-use Rattle.rules.specs.declared.Check.TheVariants.{Good, Bad}
+use Rattle.rules.specs.Results.{Check}
 use Rattle.rules.specs.State.{masters_ok}
 use Rattle.rules.proofs.Choice.{cond_elim, and_both, and_left, and_right}
 use Rattle.formats.specs.Fields.{Field, parted}
@@ -32,12 +31,12 @@ true_parted (f ∷ fs) s p e = (
 pub record Begins {A : Type 0} (F : Format A) (n : ℕ) (s : List ℕ) (a : A) : Type 0 where
   pub apart : Parted F.fields s 0
   pub here : F.at s 0 ≡ a
-  pub good : F.check n a ≡ Good
+  pub good : F.check n a ≡ Ok tt
 
 module _ {A : Type 0} where
-  found_one : (k : Check) (a b : A) (m next : ℕ) → found whole k a m ≡ one b next → (k ≡ Good) × (a ≡ b)
-  found_one Good a b m next e = (refl, cc)
-  found_one (Bad r) a b m next e = let z : ◌≡◌ {A = ℕ} 0 1 = cc in absurd (omega arith)
+  found_one : (k : Check) (a b : A) (m next : ℕ) → found whole k a m ≡ one b next → (k ≡ Ok tt) × (a ≡ b)
+  found_one (Ok _) a b m next e = (refl, cc)
+  found_one (Err r) a b m next e = let z : ◌≡◌ {A = ℕ} 0 1 = cc in absurd (omega arith)
 
   refused_none : (r : Refusal) (a : A) (next : ℕ) → refused r ≡ one a next → ⊥
   refused_none r a next e = let z : ◌≡◌ {A = ℕ} 0 1 = cc in omega arith

@@ -3,7 +3,7 @@
 --   masters_below == n is 16 at most
 --   stimulus_seen == of a stimulus line
 --   trace_seen    == of a trace line
-use Rattle.std.proofs.Common.{◌≡◌, ℕ, ◌/◌, ◌^◌, ◌<◌, ◌≤◌, Bool, true, ◌&&◌, eqb, ltb, ◌↔◌, List, length, get_or, sym, refl, ap, ◌∙◌, arith, ltb-true, lt-ltb, eq-eqb, eqb-true}
+use Rattle.std.proofs.Common.{◌≡◌, ℕ, ◌/◌, ◌^◌, ◌<◌, ◌≤◌, Bool, true, ◌&&◌, eqb, ltb, ◌↔◌, List, length, get_or, sym, refl, ap, ◌∙◌, arith, ltb-true, lt-ltb, eq-eqb, eqb-true, Ok, Some}
 use lib.Bits.{bit_or, or_lt}
 use Rattle.rules.specs.declared.Inputs.{Inputs}
 use Rattle.rules.specs.declared.Outputs.{Outputs}
@@ -13,8 +13,6 @@ use Rattle.rules.proofs.Choice.{differ, and_both, and_left, and_right}
 use Rattle.rules.proofs.Flags.{or_none_lem}
 use Rattle.formats.specs.Digits.{tab, lf, number_at}
 use Rattle.formats.specs.Files.{one, as_stimulus, as_trace}
-use Rattle.formats.specs.declared.StimulusRead.TheVariants.{Line as StimulusLine}
-use Rattle.formats.specs.declared.TraceRead.TheVariants.{Line as TraceLine}
 use Rattle.formats.specs.Lines.{inputs_at, outputs_at, read_stimulus_of, read_trace_of}
 use Rattle.formats.proofs.Limits.{ok_range}
 use Rattle.formats.proofs.Lines.{stimulus, trace, stimulus_reading, trace_reading, stimulus_answer_lem, trace_answer_lem}
@@ -156,7 +154,7 @@ module _ (n : ℕ) (s : List ℕ) (ok : masters_ok n ≡ true) where
     abbrev stimulus_good : Bool
     stimulus_good = eqb (bit_or (bit_or c.bad (bit_or hbusreq hlock / 2 ^ n)) apart) 0
 
-    stimulus_line_lem : stimulus_good ≡ true → read_stimulus_of n s 0 ≡ StimulusLine (inputs_of hbusreq hlock c) 16
+    stimulus_line_lem : stimulus_good ≡ true → read_stimulus_of n s 0 ≡ Ok (Some (inputs_of hbusreq hlock c, 16))
     stimulus_line_lem e =
         let x : Inputs = inputs_of hbusreq hlock c in
         let j = or_none_lem (bit_or c.bad (bit_or hbusreq hlock / 2 ^ n)) apart (eqb-true _ _ e) in
@@ -172,7 +170,7 @@ module _ (n : ℕ) (s : List ℕ) (ok : masters_ok n ≡ true) where
           good = inputs_pass n (masters_below n ok) x f.range;
         }))
 
-    stimulus_sure : (y : Inputs) (k : ℕ) → read_stimulus_of n s 0 ≡ StimulusLine y k → stimulus_good ≡ true
+    stimulus_sure : (y : Inputs) (k : ℕ) → read_stimulus_of n s 0 ≡ Ok (Some (y, k)) → stimulus_good ≡ true
     stimulus_sure y k e =
         let b = line_read stimulus n s y k (sym (stimulus_reading n s 0) ∙ ap as_stimulus e) in
         let p = b.apart in
@@ -206,7 +204,7 @@ module _ (n : ℕ) (s : List ℕ) (ok : masters_ok n ≡ true) where
     abbrev cycle : Cycle
     cycle = record { inputs = inputs_of hbusreq hlock c; outputs = outputs_of hgrant hmaster f }
 
-    trace_line_lem : trace_good ≡ true → read_trace_of n s 0 ≡ TraceLine cycle 31
+    trace_line_lem : trace_good ≡ true → read_trace_of n s 0 ≡ Ok (Some (cycle, 31))
     trace_line_lem e =
         let z = or_none_lem (bit_or bads (masks / 2 ^ n)) aparts (eqb-true tests 0 (and_left (eqb tests 0) (ltb hmaster n) e)) in
         let o : hmaster < n = ltb-true hmaster n (and_right (eqb tests 0) (ltb hmaster n) e) in
@@ -245,7 +243,7 @@ module _ (n : ℕ) (s : List ℕ) (ok : masters_ok n ≡ true) where
           good = cycle_pass n (masters_below n ok) cycle x.range y.range;
         }))
 
-    trace_sure : (d : Cycle) (k : ℕ) → read_trace_of n s 0 ≡ TraceLine d k → trace_good ≡ true
+    trace_sure : (d : Cycle) (k : ℕ) → read_trace_of n s 0 ≡ Ok (Some (d, k)) → trace_good ≡ true
     trace_sure d k e =
         let b = line_read trace n s d k (sym (trace_reading n s 0) ∙ ap as_trace e) in
         let p = b.apart in

@@ -4,9 +4,8 @@
 --   InputsWithin n x, OutputsWithin n o == each column is in its range
 --   inputs_pass, inputs_passed == the tests of a stimulus line
 --   cycle_pass, cycle_passed   == the tests of a trace line
-use Rattle.std.proofs.Common.{◌≡◌, ℕ, zero, suc, ◌^◌, ◌<◌, ◌≤◌, Bool, false, ◌||◌, eqb, refl, true≢false, arith, pow_mono, le-ltb, ne_eqb, le-leb, leb-false}
+use Rattle.std.proofs.Common.{◌≡◌, ℕ, zero, suc, ◌^◌, ◌<◌, ◌≤◌, Bool, false, ◌||◌, eqb, refl, true≢false, arith, pow_mono, le-ltb, ne_eqb, le-leb, leb-false, Ok}
 use borrow.Author.Tests.{lt-leb}
-use Rattle.rules.specs.declared.Check.TheVariants.{Good}
 use Rattle.rules.specs.declared.Inputs.{Inputs}
 use Rattle.rules.specs.declared.Outputs.{Outputs}
 use Rattle.rules.specs.declared.Cycle.{Cycle}
@@ -72,13 +71,13 @@ module _ (n : ℕ) where
           built = rw (few_bursts x.hburst most).1 at test5;
         }
 
-    pub inputs_passed : inputs_check n x ≡ Good → InputsWithin n x
+    pub inputs_passed : inputs_check n x ≡ Ok tt → InputsWithin n x
     unfolding inputs_check
     inputs_passed e =
         let p = total.passed (inputs_too_large x) (inputs_not_built x) (inputs_absent n x) false e in
         inputs_within p.value p.unbuilt p.absent
 
-  pub cycle_passed : (c : Cycle) → line_check n c ≡ Good → InputsWithin n c.inputs × OutputsWithin n c.outputs
+  pub cycle_passed : (c : Cycle) → line_check n c ≡ Ok tt → InputsWithin n c.inputs × OutputsWithin n c.outputs
   cycle_passed c e =
       let p = total.cycle_passed n c (line_valid n c e) in
       let small = limit.outputs_small c.outputs (or_right (inputs_too_large c.inputs) _ p.value) in (
@@ -116,7 +115,7 @@ module _ (n : ℕ) (many : n ≤ most_masters) where
     unfolding inputs_absent
     inputs_present = neither (lt-leb (2 ^ n) x.hbusreq w.requests) (lt-leb (2 ^ n) x.hlock w.locks)
 
-    pub inputs_pass : inputs_check n x ≡ Good
+    pub inputs_pass : inputs_check n x ≡ Ok tt
     unfolding inputs_check
     inputs_pass = rw (inputs_small, inputs_built, inputs_present)
 
@@ -130,10 +129,10 @@ module _ (n : ℕ) (many : n ≤ most_masters) where
       (le-ltb 1 o.granted w.granted))
       (le-ltb 1 o.busreq w.request)
 
-  pub cycle_pass : (c : Cycle) → InputsWithin n c.inputs → OutputsWithin n c.outputs → line_check n c ≡ Good
+  pub cycle_pass : (c : Cycle) → InputsWithin n c.inputs → OutputsWithin n c.outputs → line_check n c ≡ Ok tt
   unfolding cycle_check
   cycle_pass c v w =
-      let good : cycle_check n c ≡ Good =
+      let good : cycle_check n c ≡ (Ok tt) =
       rw (
         inputs_small c.inputs v,
         outputs_small c.outputs w,

@@ -1,6 +1,7 @@
 -- The number of a header, from the tests of its three bytes.
 --
 --   one_digit_lem, two_digits_lem, no_number == the three ends
+use Rattle.std.specs.Prelude.{Err}
 use Prim.Native.Nat.{ℕ, ◌+◌, ◌-◌, ◌*◌}
 use mathlib.Core.Path.{◌≡◌}
 use mathlib.Core.Bool.{Bool, true, false, not, ◌&&◌}
@@ -8,8 +9,7 @@ use mathlib.Core.List.{List}
 use lib.Dec.{eqb}
 use lib.ListN.{get_or}
 use Rattle.rules.specs.declared.Refusal.TheVariants.{Header}
-use Rattle.formats.specs.declared.HeaderRead.{HeaderRead}
-use Rattle.formats.specs.declared.HeaderRead.TheVariants.{Refused}
+use Rattle.formats.specs.Results.{HeaderRead}
 use Rattle.formats.specs.Headers.{is_decimal, one_digit, two_digits, ranged, number_in}
 
 module _ (s : List ℕ) (p a b c : ℕ) (first second : Bool)
@@ -34,6 +34,6 @@ module _ (s : List ℕ) (p a b c : ℕ) (first second : Bool)
       unfolding number_in
       two_digits_lem tens ones r t et eo h = simp (one, no, two, t) (rw (← ea, ← eb, ← et, ← eo) h)
 
-      pub no_number : (first && not (eqb a 48) && second && eqb c 10) ≡ false → Refused Header ≡ number_in s p
+      pub no_number : (first && not (eqb a 48) && second && eqb c 10) ≡ false → Err Header ≡ number_in s p
       unfolding number_in
       no_number t = simp (one, no, two, t)

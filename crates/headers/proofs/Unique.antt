@@ -9,8 +9,7 @@ use denote.MutBor.{MutBor}
 use Rattle.rules.specs.declared.Refusal.{Refusal}
 use Rattle.rulebook.specs.declared.Rule.{Rule}
 use Rattle.formats.specs.declared.Word.{Word}
-use Rattle.formats.specs.declared.HeaderRead.{HeaderRead}
-use Rattle.formats.specs.declared.Written.{Written}
+use Rattle.formats.specs.Results.{HeaderRead, Written}
 use Rattle.headers.proofs.read_header.Reads as read_header
 use Rattle.headers.proofs.write_header.Reads as write_header
 use Rattle.headers.proofs.write_breach.Reads as write_breach

@@ -6,6 +6,7 @@
 --   settled_taken, settled_refused == the ends of a cycle
 --   lost_size  == the judge in bytes that are long enough has sixteen lost counts
 --   step_short_judge, step_short_broken, step_unknown, step_known == the ends of a step
+use Rattle.std.specs.Prelude.{Err, Ok}
 use Prim.Native.Nat.{ℕ, ◌≤◌, ◌<◌}
 use mathlib.Core.Path.{◌≡◌, sym, ◌∙◌, ap}
 use mathlib.Core.Bool.{Bool, true, false, not}
@@ -19,7 +20,6 @@ use Rattle.rules.specs.declared.Cycle.{Cycle}
 use Rattle.rules.specs.Codes.{most_masters}
 use Rattle.rules.specs.Refusals.{number_of}
 use Rattle.rulebook.specs.declared.Judge.{Judge}
-use Rattle.rulebook.specs.declared.Verdict.TheVariants.{Taken, Refused}
 use Rattle.rulebook.specs.declared.Started.{Started}
 use Rattle.rulebook.specs.State.{start_of}
 use Rattle.rulebook.specs.Step.{judge_of}
@@ -40,17 +40,17 @@ module _ (n : ℕ) (J : List ℕ) where
   start_short h = let e = short_start n J h in (rw e, rw e)
 
   module _ (a : Started) (is : a ≡ start_of n) where
-    pub start_fits : a.verdict ≡ Taken → JudgeFits a.judge
+    pub start_fits : a.verdict ≡ Ok tt → JudgeFits a.judge
     start_fits e =
         let b = begun n (ap (λ (s : Started). s.verdict) (sym is) ∙ e) in
         let at : a.judge ≡ (start_of n).judge = ap (λ (s : Started). s.judge) is in
         rw (at, b.is) (judge_fits _ (start_sound n b.few b.many))
 
     module _ (room : 42 ≤ length J) where
-      pub start_taken : (J' : List ℕ) → a.verdict ≡ Taken → J' ≡ judge_stored a.judge J → JudgeStartCall n J 0 J'
+      pub start_taken : (J' : List ℕ) → a.verdict ≡ Ok tt → J' ≡ judge_stored a.judge J → JudgeStartCall n J 0 J'
       start_taken J' e p = let u = plain_start n J room ∙ sym is in (rw (u, e), rw (u, e) p)
 
-      pub start_refused : (r : Refusal) (k : ℕ) → a.verdict ≡ Refused r → k ≡ number_of r → JudgeStartCall n J k J
+      pub start_refused : (r : Refusal) (k : ℕ) → a.verdict ≡ Err r → k ≡ number_of r → JudgeStartCall n J k J
       start_refused r k e m = let u = plain_start n J room ∙ sym is in (rw (u, e) m, rw (u, e))
 
 -- a cycle: a is the judge's answer
@@ -67,19 +67,19 @@ module _ (j : Judge) (c : Cycle) (a : Ruled) (is : a ≡ ruled_of (judge_of j c)
   judge_is : a.judge ≡ (judge_of j c).judge
   judge_is = ap (λ (s : Ruled). s.judge) is
 
-  pub next_fits : length j.lost ≡ most_masters → a.verdict ≡ Taken → JudgeFits a.judge
+  pub next_fits : length j.lost ≡ most_masters → a.verdict ≡ Ok tt → JudgeFits a.judge
   next_fits size e =
       let t = taken j c (sym verdict_is ∙ e) in
       rw (judge_is, next_judge_lem j c t) (judge_fits _ (step_sound j c (facts_of j t.sound size) t.good t.room))
 
-  pub settled_taken : (J B J' B' : List ℕ) → a.verdict ≡ Taken → J' ≡ judge_stored a.judge J → B' ≡ mask_stored a.mask B → Settled j c J B 0 J' B'
+  pub settled_taken : (J B J' B' : List ℕ) → a.verdict ≡ Ok tt → J' ≡ judge_stored a.judge J → B' ≡ mask_stored a.mask B → Settled j c J B 0 J' B'
   settled_taken J B J' B' e p q =
-      let v : (judge_of j c).verdict ≡ Taken = sym verdict_is ∙ e in
+      let v : (judge_of j c).verdict ≡ (Ok tt) = sym verdict_is ∙ e in
       (rw v, rw (v, ← judge_is) p, rw (v, ← ap (λ (s : Ruled). s.mask) is) q)
 
-  pub settled_refused : (J B : List ℕ) (r : Refusal) (k : ℕ) → a.verdict ≡ Refused r → k ≡ number_of r → Settled j c J B k J B
+  pub settled_refused : (J B : List ℕ) (r : Refusal) (k : ℕ) → a.verdict ≡ Err r → k ≡ number_of r → Settled j c J B k J B
   settled_refused J B r k e m =
-      let v : (judge_of j c).verdict ≡ Refused r = sym verdict_is ∙ e in
+      let v : (judge_of j c).verdict ≡ Err r = sym verdict_is ∙ e in
       (rw v m, rw v, rw v)
 
 -- a step

@@ -6,7 +6,7 @@ ghost use Rattle.rules.specs.Codes.{most_masters};
 ghost use Rattle.rulebook.specs.Step.{judge_of};
 ghost use Rattle.docketing.specs.Calls.{ruling_of, judge_number, judge_after, broken_after, JudgeStepCall, JudgeStartCall};
 
-use rulebook::{Judge, Verdict};
+use rulebook::Judge;
 use rules::Cycle;
 
 // The start judge of n masters into the lent bytes: 9, 1.
@@ -20,11 +20,11 @@ pub fn start(n: u32, judge: &mut [u8]) -> u32
     let first = started.judge;
     let verdict = started.verdict;
     match verdict {
-        Verdict::Taken => {
+        Ok(()) => {
             entries::put(first, judge);
             0
         }
-        Verdict::Refused(r) => signals::number(r),
+        Err(r) => signals::number(r),
     }
 }
 
@@ -37,12 +37,12 @@ fn settle(j: Judge, c: Cycle, judge: &mut [u8], broken: &mut [u8]) -> u32
     let next = ruled.judge;
     let verdict = ruled.verdict;
     match verdict {
-        Verdict::Taken => {
+        Ok(()) => {
             entries::put(next, judge);
             entries::put_mask(ruled.mask, broken);
             0
         }
-        Verdict::Refused(r) => signals::number(r),
+        Err(r) => signals::number(r),
     }
 }
 

@@ -9,6 +9,7 @@
 --   small, outputs_size == the outputs as numbers
 --   ready_sound    == a reset that is not refused gives a well-formed state
 --   reset_short, reset_refused, reset_ready == the ends of a reset
+use Rattle.std.specs.Prelude.{Err, Ok, Some}
 use Prim.Native.Nat.{ℕ, ◌≤◌, ◌<◌}
 use mathlib.Core.Path.{◌≡◌, refl, sym, ◌∙◌, ap}
 use mathlib.Core.Bool.{Bool, true, false, not, ◌&&◌, false≢true, true≢false}
@@ -21,14 +22,10 @@ use lib.ListN.{length, drop}
 use lib.Seq.{sets, sets-eq}
 use Rattle.rules.specs.declared.Refusal.{Refusal}
 use Rattle.rules.specs.declared.Refusal.TheVariants as refusal
-use Rattle.rules.specs.declared.Check.{Check}
-use Rattle.rules.specs.declared.Check.TheVariants.{Good, Bad}
+use Rattle.rules.specs.Results.{Check, Start}
 use Rattle.rules.specs.declared.State.{State}
 use Rattle.rules.specs.declared.Inputs.{Inputs}
 use Rattle.rules.specs.declared.Outputs.{Outputs}
-use Rattle.rules.specs.declared.Answer.TheVariants.{Next}
-use Rattle.rules.specs.declared.Start.{Start}
-use Rattle.rules.specs.declared.Start.TheVariants.{Ready, Refused as Unready}
 use Rattle.rules.specs.Codes.{most_cycles}
 use Rattle.rules.specs.Refusals.{number_of}
 use Rattle.rules.specs.Valid.{inputs_check}
@@ -42,9 +39,7 @@ use Rattle.rules.proofs.Kept.{kept}
 use Rattle.arbitration.proofs.Close.{malformed, full, bad}
 use Rattle.buses.specs.declared.Bus.{Bus}
 use Rattle.buses.specs.Buses.{state_from}
-use Rattle.hosting.specs.declared.Lent.TheVariants.{Known}
-use Rattle.hosting.specs.declared.Outcome.{Outcome}
-use Rattle.hosting.specs.declared.Outcome.TheVariants.{Refused}
+use Rattle.hosting.specs.Results.{Outcome}
 use Rattle.hosting.specs.Bytes.{is_state, state_in, bytes_state}
 use Rattle.hosting.specs.Calls.{output_bytes, Display, of_answer, of_lent, host_number, host_step, host_reset, state_stored, cycle_stored, StepCall, ResetCall}
 use Rattle.hosting.proofs.Calls.{short_state, short_shown, short_reset, plain_reset, long_enough, refused_unchanged}
@@ -77,11 +72,11 @@ pub step_short_shown : (d : Display) (S L : List ℕ) (x : Inputs) → 12 ≤ le
 step_short_shown d S L x h k = let e = short_shown d S L x h k in (rw e, rw e, rw e)
 
 -- bytes that no well-formed state has
-unsound : (S : List ℕ) (x : Inputs) → sound_in S ≡ false → of_lent (bytes_state S) x ≡ Refused refusal.State
+unsound : (S : List ℕ) (x : Inputs) → sound_in S ≡ false → of_lent (bytes_state S) x ≡ Err refusal.State
 unfolding sound_in bytes_state of_lent
 unsound S x e = go (is_state S) refl
   where
-    go : (t : Bool) → is_state S ≡ t → of_lent (bytes_state S) x ≡ Refused refusal.State
+    go : (t : Bool) → is_state S ≡ t → of_lent (bytes_state S) x ≡ Err refusal.State
     go true p =
         let f : well_formed (state_in S) ≡ false = rw p at e in
         let q = malformed (state_in S) x false (sym f) refl in
@@ -90,7 +85,7 @@ unsound S x e = go (is_state S) refl
 
 -- bytes that a well-formed state has
 record Sound (S : List ℕ) : Type 0 where
-  known : bytes_state S ≡ Known (state_in S)
+  known : bytes_state S ≡ Some (state_in S)
   formed : WellFormed (state_in S)
 
 sound : (S : List ℕ) → sound_in S ≡ true → Sound S
@@ -99,9 +94,9 @@ sound S e =
     let p = and_left (is_state S) (well_formed (state_in S)) e in
     record { known = rw p; formed = facts_of (state_in S) (and_right (is_state S) (well_formed (state_in S)) e) }
 
-is_good_lem : (c : Check) (v : Bool) → v ≡ passes c → v ≡ true → c ≡ Good
-is_good_lem Good v e f = refl
-is_good_lem (Bad r) v e f = absurd (false≢true (sym e ∙ f))
+is_good_lem : (c : Check) (v : Bool) → v ≡ passes c → v ≡ true → c ≡ Ok tt
+is_good_lem (Ok _) v e f = refl
+is_good_lem (Err r) v e f = absurd (false≢true (sym e ∙ f))
 
 -- h is what is seen of S
 module _ (S : List ℕ) (h : Held) (w : Holds S h) where
@@ -130,13 +125,13 @@ module _ (S : List ℕ) (h : Held) (w : Holds S h) where
 
     -- c is the check of the inputs
     module _ (p : h.sound ≡ true) (room : h.bus.count < most_cycles) (c : Check) (e : c ≡ inputs_check h.n x) where
-      pub refusal_none : c ≡ Good → 0 ≡ host_number outcome
+      pub refusal_none : c ≡ Ok tt → 0 ≡ host_number outcome
       refusal_none f =
-          let good : inputs_check h.n x ≡ Good = cc in
+          let good : inputs_check h.n x ≡ (Ok tt) = cc in
           let n = never_refused here x (formed p) room good in
           rw (stepped p, n.1)
 
-      pub refusal_of : (r : Refusal) (k : ℕ) → c ≡ Bad r → k ≡ number_of r → k ≡ host_number outcome
+      pub refusal_of : (r : Refusal) (k : ℕ) → c ≡ Err r → k ≡ number_of r → k ≡ host_number outcome
       refusal_of r k f g = let q = bad here x c r (formed p) room e f in rw (stepped p, ← q) g
 
     -- where the tests of a step are not all passed, another number than 0 is answered
@@ -167,18 +162,18 @@ module _ (S : List ℕ) (h : Held) (w : Holds S h) where
       invalid e = go (inputs_check h.n x) refl
         where
           go : (c : Check) → inputs_check h.n x ≡ c → 1 ≤ host_number outcome
-          go Good q = absurd (true≢false (rw q at e))
-          go (Bad r) q = let k = refusal_of is_sound has_room (Bad r) (sym q) r (number_of r) refl refl in omega (arith, some r, k)
+          go (Ok _) q = absurd (true≢false (rw q at e))
+          go (Err r) q = let k = refusal_of is_sound has_room (Err r) (sym q) r (number_of r) refl refl in omega (arith, some r, k)
 
       pub enters : (v : Bool) → v ≡ passes (inputs_check h.n x) → not v ≡ false → Enters S x 0 h.n h.bus
       enters v e f =
           let good = is_good_lem (inputs_check h.n x) v e (not-false v f) in
           let s = sound S (sym w.exact ∙ is_sound) in
           record {
-            number = refusal_none is_sound has_room Good (sym good) refl;
+            number = refusal_none is_sound has_room (Ok tt) (sym good) refl;
             ready = λ z.
                 record {
-                  known = s.known ∙ ap Known (sym (w.known is_sound));
+                  known = s.known ∙ ap Some (sym (w.known is_sound));
                   takes = record { formed = formed is_sound; fit = w.fit; room = has_room; good = good };
                 };
           }
@@ -191,7 +186,7 @@ module _ (S : List ℕ) (h : Held) (w : Holds S h) where
     enters_unready r e q = record { number = q; ready = λ z. let k = unready (not-true (h.sound && ltb h.bus.count 1000000) e) in absurd (omega (arith, k, q, z)) }
 
 -- what a cycle that was taken leaves
-pub next_formed : (s t : State) (x : Inputs) (o : Outputs) → step_of s x ≡ Next t o → WellFormed t
+pub next_formed : (s t : State) (x : Inputs) (o : Outputs) → step_of s x ≡ Ok (t, o) → WellFormed t
 next_formed s t x o e = kept s x t o (taken s x t o e)
 
 -- the ends of a step that has entered
@@ -212,7 +207,7 @@ module _ (d : Display) (S L : List ℕ) (x : Inputs) (room : 12 ≤ length S) (s
       let shown : L' ≡ text ++ drop d.size L = el ∙ sets-eq text L 0 (omega (arith, size)) ∙ ap (λ (k : ℕ). text ++ drop k L) (zero-add (length text) ∙ size) in
       rw (whole, (e.ready z).known, t.stepped) (refl, t.stored, shown)
 
-pub ready_sound : (n : ℕ) (a : Start) (s : State) → a ≡ reset_of n → a ≡ Ready s → WellFormed s
+pub ready_sound : (n : ℕ) (a : Start) (s : State) → a ≡ reset_of n → a ≡ Ok s → WellFormed s
 ready_sound n a s e f =
     let b = reset_is n s (sym e ∙ f) in
     rw b.is (reset_sound n b.few b.many)
@@ -224,11 +219,11 @@ module _ (n : ℕ) (S : List ℕ) (room : 12 ≤ length S) (a : Start) (is : a �
   begun : host_reset n S ≡ a
   begun = plain_reset n S room ∙ sym is
 
-  pub reset_refused : (r : Refusal) (k : ℕ) → a ≡ Unready r → k ≡ number_of r → ResetCall n S k S
+  pub reset_refused : (r : Refusal) (k : ℕ) → a ≡ Err r → k ≡ number_of r → ResetCall n S k S
   reset_refused r k e m = let u = begun ∙ e in (rw u m, rw u)
 
   -- t is the same state, by its numbers
-  pub reset_ready : (s t : State) (S' : List ℕ) → a ≡ Ready s → t ≡ s → S' ≡ state_stored t S → ResetCall n S 0 S'
+  pub reset_ready : (s t : State) (S' : List ℕ) → a ≡ Ok s → t ≡ s → S' ≡ state_stored t S → ResetCall n S 0 S'
   reset_ready s t S' e f p = let u = begun ∙ e in (rw u, rw (u, ← f) p)
 
 pub small : (g : ℕ) (o : Outputs) → Driven g o → Small o

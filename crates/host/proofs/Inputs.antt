@@ -2,6 +2,7 @@
 --
 --   fits_of  == the columns of a valid stimulus fit their places in a line
 --   valid_is == the tests, and what they come to
+use Rattle.std.specs.Prelude.{Err, Ok}
 use Prim.Native.Nat.{ℕ, ◌/◌, ◌^◌, ◌≤◌}
 use mathlib.Core.Path.{◌≡◌, refl}
 use mathlib.Core.Bool.{Bool, true, not, ◌&&◌, false≢true}
@@ -10,8 +11,7 @@ use native.Mathlib.Nat.{div-eq_of_lt}
 use borrow.Author.Tests.{leb-true, le-leb, eqb-true, eq-eqb, not-true}
 use lib.Bits.{bit_or, or_lt}
 use lib.Dec.{eqb, leb}
-use Rattle.rules.specs.declared.Check.{Check}
-use Rattle.rules.specs.declared.Check.TheVariants.{Good, Bad}
+use Rattle.rules.specs.Results.{Check}
 use Rattle.rules.specs.declared.Inputs.{Inputs}
 use Rattle.rules.specs.Valid.{inputs_check}
 use Rattle.rules.proofs.Choice.{and_left, and_right, or_left, or_right}
@@ -21,7 +21,7 @@ use Rattle.octets.proofs.Places.{same_flag}
 use Rattle.prints.specs.Prints.{Fits}
 use Rattle.host.specs.Tests.{passes}
 
-pub fits_of : (n : ℕ) (x : Inputs) → n ≤ 16 → inputs_check n x ≡ Good → Fits x
+pub fits_of : (n : ℕ) (x : Inputs) → n ≤ 16 → inputs_check n x ≡ Ok tt → Fits x
 fits_of n x many e =
     let w = inputs_passed n x e in
     let top = masks_below n many in
@@ -33,9 +33,9 @@ fits_of n x many e =
       burst = w.burst;
     }
 
-good_of : (c : Check) → passes c ≡ true → c ≡ Good
-good_of Good e = refl
-good_of (Bad r) e = absurd (false≢true e)
+good_of : (c : Check) → passes c ≡ true → c ≡ Ok tt
+good_of (Ok _) e = refl
+good_of (Err r) e = absurd (false≢true e)
 
 -- the tests, as they stand
 abbrev tests : ℕ → Inputs → Bool

@@ -4,6 +4,7 @@
 --   Shown ..      == what a step that was taken showed as numbers, and what the line of it needs
 --   shown         == of a call that answered 0
 --   line_refused, line_taken == the ends of the step with the line
+use Rattle.std.specs.Prelude.{Err, None, Ok, Some}
 use Prim.Native.Nat.{ℕ, ◌+◌, ◌*◌, ◌/◌, ◌%◌, ◌≤◌, ◌<◌}
 use mathlib.Core.Path.{◌≡◌, refl, sym, ◌∙◌, ap}
 use mathlib.Core.Bool.{Bool, true, false}
@@ -24,10 +25,7 @@ use Rattle.formats.specs.Lines.{trace_line}
 use Rattle.prints.specs.Prints.{Fits}
 use Rattle.glances.specs.Glances.{Driven}
 use Rattle.glances.proofs.Shown.{driven}
-use Rattle.hosting.specs.declared.Lent.{Lent}
-use Rattle.hosting.specs.declared.Lent.TheVariants.{Known, Unknown}
-use Rattle.hosting.specs.declared.Outcome.{Outcome}
-use Rattle.hosting.specs.declared.Outcome.TheVariants.{Taken, Refused}
+use Rattle.hosting.specs.Results.{Lent, Outcome}
 use Rattle.hosting.specs.Bytes.{is_state, state_in, bytes_state}
 use Rattle.hosting.specs.Calls.{output_bytes, as_line, as_numbers, of_lent, host_step, host_number, host_state, host_shown, cycle_stored, StepCall}
 use Rattle.hosting.proofs.Calls.{long_enough, refused_unchanged, follows}
@@ -44,17 +42,17 @@ outputs_again o rest h =
     let e : o.hgrant % 256 + o.hgrant / 256 % 256 * 256 ≡ o.hgrant = omega arith in rw e
 
 -- the state that known bytes write has its grant in the second
-grant_of : (S : List ℕ) (s : State) → bytes_state S ≡ Known s → s.g ≡ get_or S 1 0
+grant_of : (S : List ℕ) (s : State) → bytes_state S ≡ Some s → s.g ≡ get_or S 1 0
 unfolding bytes_state state_in
 grant_of S s e = go (is_state S) refl
   where
     go : (b : Bool) → is_state S ≡ b → s.g ≡ get_or S 1 0
-    go true p = let q : Known (state_in S) ≡ Known s = sym (rw p) ∙ e in ap grant (sym q)
+    go true p = let q : Some (state_in S) ≡ Some s = sym (rw p) ∙ e in ap grant (sym q)
       where
         grant : Lent → ℕ
-        grant (Known t) = t.g
-        grant Unknown = 0
-    go false p = let q : Unknown ≡ Known s = sym (rw p) ∙ e in let z : ◌≡◌ {A = ℕ} 0 1 = cc in absurd (omega arith)
+        grant (Some t) = t.g
+        grant None = 0
+    go false p = let q : None ≡ Some s = sym (rw p) ∙ e in let z : ◌≡◌ {A = ℕ} 0 1 = cc in absurd (omega arith)
 
 module _ (S N L : List ℕ) (x : Inputs) (room : 12 ≤ length S) (eight : 8 ≤ length N) (space : 31 ≤ length L) where
   numbers_call : host_step as_numbers S N x ≡ of_lent (bytes_state S) x
@@ -75,7 +73,7 @@ module _ (S N L : List ℕ) (x : Inputs) (room : 12 ≤ length S) (eight : 8 ≤
     pub record Showed : Type 0 where
       pub next : State
       pub outputs : Outputs
-      pub taken : of_lent (bytes_state S) x ≡ Taken next (record { inputs = x; outputs = outputs })
+      pub taken : of_lent (bytes_state S) x ≡ Ok (next, record { inputs = x; outputs = outputs })
       pub drives : Driven (get_or S 1 0) outputs
       pub fits : Fits x
       pub seen : outputs_in N' ≡ outputs
@@ -85,8 +83,8 @@ module _ (S N L : List ℕ) (x : Inputs) (room : 12 ≤ length S) (eight : 8 ≤
     showed z = go (of_lent (bytes_state S) x) refl
       where
         go : (o : Outcome) → of_lent (bytes_state S) x ≡ o → Showed
-        go (Refused q) e = absurd (omega (arith, some q, rw e at plain.0, z))
-        go (Taken t k) e =
+        go (Err q) e = absurd (omega (arith, some q, rw e at plain.0, z))
+        go (Ok (t, k)) e =
             let f = follows (bytes_state S) x t k e in
             let g : f.from.g ≡ get_or S 1 0 = grant_of S f.from f.known in
             let d = driven f.from t x k.outputs f.stepped in
@@ -96,7 +94,7 @@ module _ (S N L : List ℕ) (x : Inputs) (room : 12 ≤ length S) (eight : 8 ≤
             record {
               next = t;
               outputs = k.outputs;
-              taken = e ∙ ap (λ (k : Cycle). Taken t k) is;
+              taken = e ∙ ap (λ (k : Cycle). Ok (t, k)) is;
               drives = rw g at d;
               fits = fits_of f.from.n x w.sound.many w.good;
               seen = ap outputs_in (rw e at plain.2) ∙ outputs_again k.outputs (drop 8 N) small;

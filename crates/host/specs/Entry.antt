@@ -6,19 +6,16 @@
 --   Took n b x o S S' == it was taken: the outputs o were shown, and the bytes S' have the state after it
 --   Small o          == all outputs but HGRANT fit into a byte
 --   outputs_in b     == the outputs that the bytes b write
-use Rattle.std.specs.Prelude.{ℕ, ◌+◌, ◌*◌, ◌<◌, ◌≡◌, List, get_or}
-use Rattle.rules.specs.declared.Check.TheVariants.{Good}
+use Rattle.std.specs.Prelude.{ℕ, ◌+◌, ◌*◌, ◌<◌, ◌≡◌, List, get_or, Ok, Some}
 use Rattle.rules.specs.declared.State.{State}
 use Rattle.rules.specs.declared.Inputs.{Inputs}
 use Rattle.rules.specs.declared.Outputs.{Outputs}
-use Rattle.rules.specs.declared.Answer.TheVariants.{Next}
 use Rattle.rules.specs.Codes.{most_cycles}
 use Rattle.rules.specs.Valid.{inputs_check}
 use Rattle.rules.specs.State.{WellFormed}
 use Rattle.rules.specs.Step.{step_of}
 use Rattle.buses.specs.declared.Bus.{Bus}
 use Rattle.buses.specs.Buses.{state_from, Fit}
-use Rattle.hosting.specs.declared.Lent.TheVariants.{Known}
 use Rattle.hosting.specs.Bytes.{bytes_state}
 use Rattle.hosting.specs.Calls.{of_lent, host_number, state_stored}
 
@@ -26,10 +23,10 @@ pub record Takes (n : ℕ) (b : Bus) (x : Inputs) : Type 0 where
   pub formed : WellFormed (state_from n b)
   pub fit : Fit b
   pub room : b.count < most_cycles
-  pub good : inputs_check n x ≡ Good
+  pub good : inputs_check n x ≡ Ok tt
 
 pub record Ready (S : List ℕ) (x : Inputs) (n : ℕ) (b : Bus) : Type 0 where
-  pub known : bytes_state S ≡ Known (state_from n b)
+  pub known : bytes_state S ≡ Some (state_from n b)
   pub takes : Takes n b x
 
 pub record Enters (S : List ℕ) (x : Inputs) (r n : ℕ) (b : Bus) : Type 0 where
@@ -38,7 +35,7 @@ pub record Enters (S : List ℕ) (x : Inputs) (r n : ℕ) (b : Bus) : Type 0 whe
 
 pub record Took (n : ℕ) (b : Bus) (x : Inputs) (o : Outputs) (S S' : List ℕ) : Type 0 where
   pub next : State
-  pub stepped : step_of (state_from n b) x ≡ Next next o
+  pub stepped : step_of (state_from n b) x ≡ Ok (next, o)
   pub stored : S' ≡ state_stored next S
 
 pub record Small (o : Outputs) : Type 0 where

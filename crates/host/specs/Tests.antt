@@ -1,10 +1,9 @@
 -- What the host's tests say.
 --
 --   passes c        == the check c finds nothing to refuse
-use Rattle.std.specs.Prelude.{Bool, true, false}
-use Rattle.rules.specs.declared.Check.{Check}
-use Rattle.rules.specs.declared.Check.TheVariants.{Good, Bad}
+use Rattle.std.specs.Prelude.{Bool, true, false, Err, Ok}
+use Rattle.rules.specs.Results.{Check}
 
 abbrev pub passes : Check → Bool
-passes Good = true
-passes (Bad r) = false
+passes (Ok _) = true
+passes (Err r) = false

@@ -12,7 +12,7 @@ ghost use Rattle.host.specs.Tests.{passes};
 ghost use Rattle.host.specs.Entry.{Takes, Enters, Took, Small, outputs_in};
 
 use buses::Bus;
-use rules::{Check, Cycle, Inputs, Outputs, Start};
+use rules::{Cycle, Inputs, Outputs};
 
 // Whether a stimulus is valid for n, with few tests.
 fn valid(n: u32, x: Inputs) -> bool
@@ -41,8 +41,8 @@ fn refusal(b: &[u8], x: Inputs) -> u32
         return 8;
     }
     match signals::check_inputs(held.n, x) {
-        Check::Good => 0,
-        Check::Bad(r) => signals::number(r),
+        Ok(()) => 0,
+        Err(r) => signals::number(r),
     }
 }
 
@@ -220,8 +220,8 @@ pub extern "C" fn espigambre_reset(n: u32, state: &mut [u8]) -> u32
         return 9;
     }
     match arbitration::reset(n) {
-        Start::Refused(r) => signals::number(r),
-        Start::Ready(s) => {
+        Err(r) => signals::number(r),
+        Ok(s) => {
             let b = buses::bus_of(s);
             octets::put(s.n, b, state);
             0

@@ -4,6 +4,7 @@
 --   state_bytes_lem == a well-formed state has twelve bytes
 --   state_again     == they write that state, whatever follows them
 --   bytes_again     == bytes that write a state are its bytes
+use Rattle.std.specs.Prelude.{Some}
 use Prim.Native.Nat.{ℕ, zero, suc, ◌≤◌, ◌<◌}
 use mathlib.Core.Path.{◌≡◌, refl, sym, ◌∙◌}
 use mathlib.Core.Bool.{Bool, true, false, ◌||◌}
@@ -21,7 +22,6 @@ use Rattle.rules.proofs.Choice.{and_left, and_right}
 use Rattle.rules.proofs.Flags.{flag_most, flag_again}
 use Rattle.words.specs.Words.{low_first}
 use Rattle.words.proofs.Words.{Bytes, one_more, slots, slots_take, number_bytes, bytes_of_number}
-use Rattle.hosting.specs.declared.Lent.TheVariants.{Known}
 use Rattle.hosting.specs.Bytes.{state_size, phase_byte, left_byte, state_bytes, phase_of, is_state, state_in, bytes_state}
 
 flag_byte : (f : ℕ) → leb f 1 ≡ true → flag_of (eqb f 1) ≡ f
@@ -83,7 +83,7 @@ state_bytes_lem s w =
     let rest = one_more (phase_below s.phase) (one_more (left_small s w) (one_more spare (number_bytes 4 s.count))) in
     (refl, one_more n (one_more g (one_more m (one_more lock (one_more granted rest)))))
 
-pub state_again : (s : State) (rest : List ℕ) → WellFormed s → bytes_state (state_bytes s ++ rest) ≡ Known s
+pub state_again : (s : State) (rest : List ℕ) → WellFormed s → bytes_state (state_bytes s ++ rest) ≡ Some s
 unfolding bytes_state state_bytes is_state state_in
 state_again s rest w =
     let count : (state_in (state_bytes s ++ rest)).count ≡ s.count = omega (arith, w.room) in
@@ -117,7 +117,7 @@ shaped_bytes b w e =
       eqb-true (get_or b 7 0) 0 t.spare,
     )
 
-pub bytes_again : (b : List ℕ) (s : State) → state_size ≤ length b → Bytes b → bytes_state b ≡ Known s → state_bytes s ≡ take state_size b
+pub bytes_again : (b : List ℕ) (s : State) → state_size ≤ length b → Bytes b → bytes_state b ≡ Some s → state_bytes s ≡ take state_size b
 unfolding bytes_state
 bytes_again b s h w e = go (is_state b) refl
   where

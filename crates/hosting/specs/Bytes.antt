@@ -9,14 +9,13 @@
 --   state_bytes s == the bytes of the state s
 --   is_state b    == b begins with the bytes of a state, well formed or not
 --   bytes_state b == the state whose bytes b begins with, if there is one
-use Rattle.std.specs.Prelude.{ℕ, Bool, ◌&&◌, ◌||◌, cond, List, ◌∷◌, eqb, leb, get_or}
+use Rattle.std.specs.Prelude.{ℕ, Bool, ◌&&◌, ◌||◌, cond, List, ◌∷◌, eqb, leb, get_or, None, Some}
 use Rattle.rules.specs.declared.Phase.{Phase}
 use Rattle.rules.specs.declared.Phase.TheVariants.{Fresh, Fixed, Open, Done}
 use Rattle.rules.specs.declared.State.{State}
 use Rattle.rules.specs.Step.{flag_of}
 use Rattle.words.specs.Words.{low_first, number_low}
-use Rattle.hosting.specs.declared.Lent.{Lent}
-use Rattle.hosting.specs.declared.Lent.TheVariants.{Known, Unknown}
+use Rattle.hosting.specs.Results.{Lent}
 
 abbrev pub state_size : ℕ
 state_size = 12
@@ -72,4 +71,4 @@ state_in b =
     }
 
 unfoldable pub bytes_state : List ℕ → Lent
-bytes_state b = cond (is_state b) (Known (state_in b)) Unknown
+bytes_state b = cond (is_state b) (Some (state_in b)) None

@@ -12,26 +12,20 @@
 --   host_reset n state  == what a reset of the lent bytes comes to; reset_answer gives its number
 --   host_start a buffer == the buffer afterwards
 --   StepCall d, ResetCall == the contracts of the calls
-use Rattle.std.specs.Prelude.{ℕ, ◌≡◌, cond, List, [], ◌∷◌, ◌++◌, ltb, length, drop}
+use Rattle.std.specs.Prelude.{ℕ, ◌≡◌, cond, List, [], ◌∷◌, ◌++◌, ltb, length, drop, Err, None, Ok, Some}
 use Rattle.rules.specs.declared.Refusal.TheVariants.{Short, State as StateRefusal}
 use Rattle.rules.specs.declared.State.{State}
 use Rattle.rules.specs.declared.Inputs.{Inputs}
 use Rattle.rules.specs.declared.Outputs.{Outputs}
 use Rattle.rules.specs.declared.Cycle.{Cycle}
-use Rattle.rules.specs.declared.Start.{Start}
-use Rattle.rules.specs.declared.Start.TheVariants.{Ready, Refused as Unready}
-use Rattle.rules.specs.declared.Answer.{Answer}
-use Rattle.rules.specs.declared.Answer.TheVariants as answer
+use Rattle.rules.specs.Results.{Start, Answer}
 use Rattle.rules.specs.Refusals.{number_of, reset_answer}
 use Rattle.rules.specs.State.{reset_of}
 use Rattle.rules.specs.Step.{step_of}
 use Rattle.formats.specs.Fields.{width}
 use Rattle.formats.specs.Lines.{trace_fields, trace_line}
 use Rattle.words.specs.Words.{low_first}
-use Rattle.hosting.specs.declared.Lent.{Lent}
-use Rattle.hosting.specs.declared.Lent.TheVariants.{Known, Unknown}
-use Rattle.hosting.specs.declared.Outcome.{Outcome}
-use Rattle.hosting.specs.declared.Outcome.TheVariants.{Taken, Refused}
+use Rattle.hosting.specs.Results.{Lent, Outcome}
 use Rattle.hosting.specs.Bytes.{state_size, state_bytes, bytes_state}
 
 -- HGRANT low byte first, HMASTER, HMASTLOCK, DECIDE, GRANTED, BUSREQ, 0
@@ -55,22 +49,22 @@ lent hbusreq hlock hready htrans hburst =
     record { hbusreq = hbusreq; hlock = hlock; hready = hready; htrans = htrans; hburst = hburst }
 
 abbrev pub of_answer : Answer → Inputs → Outcome
-of_answer (answer.Next t o) x = Taken t (record { inputs = x; outputs = o })
-of_answer (answer.Refused r t) x = Refused r
+of_answer (Ok (t, o)) x = Ok (t, record { inputs = x; outputs = o })
+of_answer (Err (r, t)) x = Err r
 
 -- 10 where the bytes are no state; else as a step of that state, which gives 10 where it is not well formed
 unfoldable pub of_lent : Lent → Inputs → Outcome
-of_lent (Known s) x = of_answer (step_of s x) x
-of_lent Unknown x = Refused StateRefusal
+of_lent (Some s) x = of_answer (step_of s x) x
+of_lent None x = Err StateRefusal
 
 unfoldable pub host_step : Display → List ℕ → List ℕ → Inputs → Outcome
 host_step d state shown x =
-    cond (ltb (length state) state_size) (Refused Short)
-    (cond (ltb (length shown) d.size) (Refused Short) (of_lent (bytes_state state) x))
+    cond (ltb (length state) state_size) (Err Short)
+    (cond (ltb (length shown) d.size) (Err Short) (of_lent (bytes_state state) x))
 
 abbrev pub host_number : Outcome → ℕ
-host_number (Taken t c) = 0
-host_number (Refused r) = number_of r
+host_number (Ok (t, c)) = 0
+host_number (Err r) = number_of r
 
 -- the first bytes of a buffer, and the rest as it was
 unfoldable pub state_stored : State → List ℕ → List ℕ
@@ -80,20 +74,20 @@ unfoldable pub cycle_stored : Display → Cycle → List ℕ → List ℕ
 cycle_stored d c buffer = d.bytes c ++ drop d.size buffer
 
 abbrev pub host_state : Outcome → List ℕ → List ℕ
-host_state (Taken t c) buffer = state_stored t buffer
-host_state (Refused r) buffer = buffer
+host_state (Ok (t, c)) buffer = state_stored t buffer
+host_state (Err r) buffer = buffer
 
 abbrev pub host_shown : Display → Outcome → List ℕ → List ℕ
-host_shown d (Taken t c) buffer = cycle_stored d c buffer
-host_shown d (Refused r) buffer = buffer
+host_shown d (Ok (t, c)) buffer = cycle_stored d c buffer
+host_shown d (Err r) buffer = buffer
 
 -- 9, then as reset: 1
 unfoldable pub host_reset : ℕ → List ℕ → Start
-host_reset n state = cond (ltb (length state) state_size) (Unready Short) (reset_of n)
+host_reset n state = cond (ltb (length state) state_size) (Err Short) (reset_of n)
 
 abbrev pub host_start : Start → List ℕ → List ℕ
-host_start (Ready s) buffer = state_stored s buffer
-host_start (Unready r) buffer = buffer
+host_start (Ok s) buffer = state_stored s buffer
+host_start (Err r) buffer = buffer
 
 -- what the calls promise: of the answer r, and of every byte of the buffers at exit
 abbrev pub StepCall : Display → Inputs → List ℕ → List ℕ → ℕ → List ℕ → List ℕ → Type 0

@@ -6,6 +6,7 @@
 --   nearer     == a program that went on read at least a byte of no more than 1,000,001 lines
 --   lent, wide == the program's buffers, and their room for what a header comes to
 --   begun_formed, begins, refuses == a header that is accepted begins with a tally of nothing; one that is refused ends the program
+use Rattle.std.specs.Prelude.{Err, Ok}
 use Prim.Native.Nat.{ℕ, ◌+◌, ◌*◌, ◌≤◌, ◌<◌}
 use mathlib.Core.Path.{◌≡◌, refl, sym, ◌∙◌, ap}
 use mathlib.Core.Bool.{Bool, true, false, ◌&&◌, cond, true≢false, false≢true}
@@ -18,8 +19,7 @@ use Rattle.rules.specs.declared.Refusal.{Refusal}
 use Rattle.rules.specs.Codes.{fewest_masters, most_masters, most_cycles}
 use Rattle.rules.proofs.Choice.{and_left, and_right}
 use Rattle.formats.specs.declared.Word.TheVariants.{Trace}
-use Rattle.formats.specs.declared.HeaderRead.{HeaderRead}
-use Rattle.formats.specs.declared.HeaderRead.TheVariants.{Header, Refused as Unread}
+use Rattle.formats.specs.Results.{HeaderRead}
 use Rattle.formats.specs.Headers.{read_header_of}
 use Rattle.streams.specs.declared.Tally.{Tally}
 use Rattle.streams.specs.declared.JudgeStretch.{JudgeStretch}
@@ -106,7 +106,7 @@ module _ (head : List ℕ) (room : ℕ) (a : JudgeStretch) (is : a ≡ judge_hea
     fails true n p = absurd (true≢false p)
     fails false n p = refl
 
-    ends : (given : Bool) (h : HeaderRead) (r : Refusal) → h ≡ Unread r → e ≡ cond given ending.Refused ending.Unwritten
+    ends : (given : Bool) (h : HeaderRead) (r : Refusal) → h ≡ Err r → e ≡ cond given ending.Refused ending.Unwritten
         → Begins named judge_turn (Lines 31) start_tally e h
     ends true h r q p = rw q (refused p)
     ends false h r q p = unwritten p
@@ -115,23 +115,23 @@ module _ (head : List ℕ) (room : ℕ) (a : JudgeStretch) (is : a ≡ judge_hea
     begun_formed g = go (read_header_of Trace head) refl
       where
         go : (h : HeaderRead) → read_header_of Trace head ≡ h → tally_formed t ≡ true
-        go (Header n next) q =
-            let ok = header_good Trace head (Header n next) n next (sym q) refl in
+        go (Ok (n, next)) q =
+            let ok = header_good Trace head (Ok (n, next)) n next (sym q) refl in
             let few = leb-true fewest_masters n (and_left (leb fewest_masters n) (leb n most_masters) ok) in
             let many = leb-true n most_masters (and_right (leb fewest_masters n) (leb n most_masters) ok) in
-            rw (sorted (Header n next) q).1 (tally_stays_formed.0 n few many)
-        go (Unread r) q = let c = (sorted (Unread r) q).0 in stops c.given (sym c.flow ∙ g)
+            rw (sorted (Ok (n, next)) q).1 (tally_stays_formed.0 n few many)
+        go (Err r) q = let c = (sorted (Err r) q).0 in stops c.given (sym c.flow ∙ g)
 
     pub begins : (f : Ending) → goes ≡ true → Ran named judge_turn (Lines 31) t f → Begins named judge_turn (Lines 31) start_tally f (read_header_of Trace head)
     begins f g ran = go (read_header_of Trace head) refl
       where
         go : (h : HeaderRead) → read_header_of Trace head ≡ h → Begins named judge_turn (Lines 31) start_tally f (read_header_of Trace head)
-        go (Header n next) q = rw q (begun (rw (sorted (Header n next) q).1 at ran))
-        go (Unread r) q = let c = (sorted (Unread r) q).0 in stops c.given (sym c.flow ∙ g)
+        go (Ok (n, next)) q = rw q (begun (rw (sorted (Ok (n, next)) q).1 at ran))
+        go (Err r) q = let c = (sorted (Err r) q).0 in stops c.given (sym c.flow ∙ g)
 
     pub refuses : goes ≡ false → Begins named judge_turn (Lines 31) start_tally e (read_header_of Trace head)
     refuses g = go (read_header_of Trace head) refl
       where
         go : (h : HeaderRead) → read_header_of Trace head ≡ h → Begins named judge_turn (Lines 31) start_tally e (read_header_of Trace head)
-        go (Header n next) q = let c = (sorted (Header n next) q).0 in unwritten (c.ending ∙ fails c.given n (sym c.flow ∙ g))
-        go (Unread r) q = let c = (sorted (Unread r) q).0 in ends c.given (read_header_of Trace head) r q c.ending
+        go (Ok (n, next)) q = let c = (sorted (Ok (n, next)) q).0 in unwritten (c.ending ∙ fails c.given n (sym c.flow ∙ g))
+        go (Err r) q = let c = (sorted (Err r) q).0 in ends c.given (read_header_of Trace head) r q c.ending

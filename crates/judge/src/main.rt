@@ -13,7 +13,6 @@ ghost use Rattle.console.specs.Ran.{Turned, Ran, Begins};
 ghost use Rattle.judge.specs.Breaches.{named, Answered};
 
 use console::{Ending, Fed, Output};
-use formats::Written;
 use std::io::{Read, Write};
 use streams::{JudgeStretch, Tally};
 
@@ -29,8 +28,8 @@ struct After {
 // The end line: whether it was written.
 fn end<W: Write>(output: &mut Output<W>, b: Tally, out: &mut [u8]) -> bool {
     match streaming::judge_end(b, out) {
-        Written::Bytes(w) => console::give(output, w, out),
-        Written::Refused(_) => false,
+        Ok(w) => console::give(output, w, out),
+        Err(_) => false,
     }
 }
 

@@ -5,6 +5,7 @@
 --   sound     == a judge that passes its test is well formed
 --   malformed, full, gone_on == the three ends of a step
 --   flagged   == the same step with a flag for each rule
+use Rattle.std.specs.Prelude.{Err, Ok}
 use Prim.Native.Nat.{ℕ, ◌≤◌, ◌<◌}
 use mathlib.Core.Path.{◌≡◌, refl, sym, ◌∙◌}
 use mathlib.Core.Bool.{Bool, true, false, not}
@@ -14,15 +15,13 @@ use lib.Dec.{leb}
 use lib.ListN.{length}
 use Rattle.rules.specs.declared.Refusal.{Refusal}
 use Rattle.rules.specs.declared.Refusal.TheVariants.{Full, State}
-use Rattle.rules.specs.declared.Check.{Check}
-use Rattle.rules.specs.declared.Check.TheVariants.{Good, Bad}
+use Rattle.rules.specs.Results.{Check}
 use Rattle.rules.specs.declared.Cycle.{Cycle}
 use Rattle.rules.specs.Codes.{most_cycles}
 use Rattle.rules.specs.Valid.{cycle_check}
 use Rattle.rules.proofs.Choice.{cond_elim}
 use Rattle.rulebook.specs.declared.Judge.{Judge}
 use Rattle.rulebook.specs.declared.Judgement.{Judgement}
-use Rattle.rulebook.specs.declared.Verdict.TheVariants.{Taken}
 use Rattle.rulebook.specs.Rules.{rules}
 use Rattle.rulebook.specs.State.{well_formed}
 use Rattle.rulebook.specs.Charges.{next_judge, charges}
@@ -37,18 +36,18 @@ Sized a = length a.charged ≡ 21
 
 module _ (j : Judge) (c : Cycle) where
   pub taken : (after : Judge) (m : ℕ) → after ≡ next_judge j c → m ≡ mask_of (map (charges j c) rules)
-      → record { judge = after; verdict = Taken; mask = m } ≡ ruled_of (taken_of j c)
+      → record { judge = after; verdict = Ok tt; mask = m } ≡ ruled_of (taken_of j c)
   unfolding taken_of
   taken after m e f = rw (e, f)
 
-  pub good : (k f : Check) (a : Ruled) → f ≡ k → f ≡ Good → a ≡ ruled_of (taken_of j c) → a ≡ ruled_of (checked_of k j c)
+  pub good : (k f : Check) (a : Ruled) → f ≡ k → f ≡ Ok tt → a ≡ ruled_of (taken_of j c) → a ≡ ruled_of (checked_of k j c)
   good k f a e g h =
-      let u : k ≡ Good = cc in
+      let u : k ≡ (Ok tt) = cc in
       rw u h
 
-  pub bad : (k f : Check) (r : Refusal) (a : Ruled) → f ≡ k → f ≡ Bad r → a ≡ ruled_of (refused_of j r) → a ≡ ruled_of (checked_of k j c)
+  pub bad : (k f : Check) (r : Refusal) (a : Ruled) → f ≡ k → f ≡ Err r → a ≡ ruled_of (refused_of j r) → a ≡ ruled_of (checked_of k j c)
   bad k f r a e g h =
-      let u : k ≡ Bad r = cc in
+      let u : k ≡ Err r = cc in
       rw u h
 
   pub malformed : (b : Bool) (a : Ruled) → b ≡ well_formed j → not b ≡ true → a ≡ ruled_of (refused_of j State) → a ≡ ruled_of (judge_of j c)
@@ -76,8 +75,8 @@ module _ (j : Judge) (c : Cycle) where
       (λ _. cond_elim Sized (leb most_cycles j.count) (λ _. refl) (λ _. go (cycle_check j.n c)))
     where
       go : (k : Check) → Sized (checked_of k j c)
-      go Good = refl
-      go (Bad r) = refl
+      go (Ok _) = refl
+      go (Err r) = refl
 
   pub flagged : (a : Ruled) (l : List Bool) → a ≡ ruled_of (judge_of j c) → l ≡ flags_in 21 a.mask
       → record { judge = a.judge; verdict = a.verdict; charged = l } ≡ judge_of j c

@@ -4,14 +4,14 @@ ghost use Rattle.rulebook.specs.Columns.{some_master};
 ghost use Rattle.rulebook.specs.State.{is_good, wrong_count, some_count, watch_ok, no_watch, no_output, starts_out};
 
 use rulebook::{Judge, Watch};
-use rules::{Check, Outputs};
+use rules::{Outputs, Refusal};
 
-pub fn is_good(c: Check) -> bool
+pub fn is_good(c: Result<(), Refusal>) -> bool
     ensures { result ≡ is_good c }
 {
     match c {
-        Check::Good => true,
-        Check::Bad(_) => false,
+        Ok(()) => true,
+        Err(_) => false,
     }
 }
 

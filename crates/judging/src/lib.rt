@@ -12,8 +12,8 @@ ghost use Rattle.rulebook.specs.Step.{refused_of, taken_of, checked_of, judge_of
 ghost use Rattle.charging.specs.Ready.{Ready};
 ghost use Rattle.judging.specs.Ruled.{ruled_of};
 
-use rulebook::{Judge, Judgement, Started, Verdict, Watch};
-use rules::{Check, Cycle, Inputs, Outputs, Refusal};
+use rulebook::{Judge, Judgement, Started, Watch};
+use rules::{Cycle, Inputs, Outputs, Refusal};
 
 fn no_cycle() -> Cycle
     ensures { result ≡ no_cycle }
@@ -61,12 +61,12 @@ pub fn start(n: u32) -> Started
     if (2 <= n) & (n <= 16) {
         Started {
             judge: start_judge(n),
-            verdict: Verdict::Taken,
+            verdict: Ok(()),
         }
     } else {
         Started {
             judge: start_judge(0),
-            verdict: Verdict::Refused(Refusal::Masters),
+            verdict: Err(Refusal::Masters),
         }
     }
 }
@@ -98,7 +98,7 @@ pub fn well_formed(j: Judge) -> bool
 #[derive(Clone, Copy)]
 pub struct Ruled {
     pub judge: Judge,
-    pub verdict: Verdict,
+    pub verdict: Result<(), Refusal>,
     pub mask: u32,
 }
 
@@ -107,7 +107,7 @@ fn refused(j: Judge, r: Refusal) -> Ruled
 {
     Ruled {
         judge: j,
-        verdict: Verdict::Refused(r),
+        verdict: Err(r),
         mask: 0,
     }
 }
@@ -122,7 +122,7 @@ fn take(j: Judge, c: Cycle) -> Ruled
     let mask = charging::charge_all(j, c, kept.reached);
     Ruled {
         judge,
-        verdict: Verdict::Taken,
+        verdict: Ok(()),
         mask,
     }
 }
@@ -133,8 +133,8 @@ fn checked(j: Judge, c: Cycle) -> Ruled
     ensures { result ≡ ruled_of (checked_of (cycle_check j.n c) j c) }
 {
     match signals::check_cycle(j.n, c) {
-        Check::Good => take(j, c),
-        Check::Bad(r) => refused(j, r),
+        Ok(()) => take(j, c),
+        Err(r) => refused(j, r),
     }
 }
 

@@ -1,6 +1,7 @@
 -- Columns that passed the tests are below ten, but for the masks and HMASTER.
 --
 --   small_inputs, small_cycle == of a stimulus, and of a trace line
+use Rattle.std.specs.Prelude.{Err, Ok}
 use Prim.Native.Nat.{ℕ, ◌<◌}
 use mathlib.Core.Path.{◌≡◌, refl}
 use mathlib.Core.Bool.{Bool, true, false, ◌||◌, true≢false}
@@ -8,8 +9,7 @@ use native.Mathlib.Omega.{arith}
 use borrow.Author.Tests.{ltb-false, lt-leb, ne_eqb}
 use lib.Dec.{ltb}
 use Rattle.rules.specs.declared.Refusal.TheVariants.{Masters}
-use Rattle.rules.specs.declared.Check.{Check}
-use Rattle.rules.specs.declared.Check.TheVariants.{Good, Bad}
+use Rattle.rules.specs.Results.{Check}
 use Rattle.rules.specs.declared.Inputs.{Inputs}
 use Rattle.rules.specs.declared.Outputs.{Outputs}
 use Rattle.rules.specs.declared.Cycle.{Cycle}
@@ -59,20 +59,20 @@ of_outputs o e =
     }
 
 -- a writer's check that is good was good without its test of n
-past_masters : (n : ℕ) (k : Check) → for_masters n k ≡ Good → k ≡ Good
+past_masters : (n : ℕ) (k : Check) → for_masters n k ≡ Ok tt → k ≡ Ok tt
 past_masters n k e = go (masters_ok n) refl
   where
-    go : (b : Bool) → masters_ok n ≡ b → k ≡ Good
+    go : (b : Bool) → masters_ok n ≡ b → k ≡ Ok tt
     go true q = rw q at e
-    go false q = let z : Bad Masters ≡ Good = rw q at e in cc
+    go false q = let z : ◌≡◌ {A = Check} (Err Masters) (Ok tt) = rw q at e in cc
 
-pub small_inputs : (n : ℕ) (x : Inputs) → for_masters n (inputs_check n x) ≡ Good → SmallInputs x
+pub small_inputs : (n : ℕ) (x : Inputs) → for_masters n (inputs_check n x) ≡ Ok tt → SmallInputs x
 unfolding inputs_check
 small_inputs n x e =
     of_inputs x
     (passed (inputs_too_large x) (inputs_not_built x) (inputs_absent n x) false (past_masters n (inputs_check n x) e)).value
 
-pub small_cycle : (n : ℕ) (c : Cycle) → for_masters n (cycle_check n c) ≡ Good → SmallInputs c.inputs × SmallOutputs c.outputs
+pub small_cycle : (n : ℕ) (c : Cycle) → for_masters n (cycle_check n c) ≡ Ok tt → SmallInputs c.inputs × SmallOutputs c.outputs
 small_cycle n c e =
     let x = inputs_too_large c.inputs in
     let o = outputs_too_large c.outputs in

@@ -13,7 +13,7 @@ use native.Mathlib.Omega.{arith}
 use borrow.Author.Tests.{lt-ltb, le-ltb, ltb-false, leb-true, leb-false, eq-eqb, ne_eqb, not-true, not-false}
 use lib.Dec.{leb, ltb, eqb}
 use lib.ListN.{length}
-use Rattle.rules.specs.declared.Check.{Check}
+use Rattle.rules.specs.Results.{Check}
 use Rattle.rules.specs.State.{masters_ok}
 use Rattle.rules.proofs.Choice.{and_left}
 use Rattle.formats.specs.Fields.{Field, width, parted}

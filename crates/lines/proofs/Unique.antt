@@ -8,9 +8,7 @@ use denote.Ref.{Bor}
 use denote.MutBor.{MutBor}
 use Rattle.rules.specs.declared.Inputs.{Inputs}
 use Rattle.rules.specs.declared.Cycle.{Cycle}
-use Rattle.formats.specs.declared.StimulusRead.{StimulusRead}
-use Rattle.formats.specs.declared.TraceRead.{TraceRead}
-use Rattle.formats.specs.declared.Written.{Written}
+use Rattle.formats.specs.Results.{StimulusRead, TraceRead, Written}
 use Rattle.lines.proofs.read_stimulus.Reads as read_stimulus
 use Rattle.lines.proofs.read_trace.Reads as read_trace
 use Rattle.lines.proofs.write_stimulus.Reads as write_stimulus

@@ -9,8 +9,7 @@ ghost use Rattle.formats.specs.Lines.{stimulus_fields, trace_fields, inputs_at, 
 ghost use Rattle.lines.specs.Spots.{spot_of};
 ghost use Rattle.lines.specs.Small.{SmallInputs, SmallOutputs};
 
-use formats::{StimulusRead, TraceRead, Written};
-use rules::{Check, Cycle, Inputs, Outputs, Refusal};
+use rules::{Cycle, Inputs, Outputs, Refusal};
 
 // Where a reader stands before it looks at a line: n is wrong, or the position is beyond the input, at its end or inside it.
 #[derive(Clone, Copy)]
@@ -86,12 +85,12 @@ fn cycle_at(s: &[u8], p: usize) -> Cycle
 }
 
 // The tests of a trace line: HMASTER alone has room for a character that is no digit.
-pub fn check_line(n: u32, c: Cycle) -> Check
+pub fn check_line(n: u32, c: Cycle) -> Result<(), Refusal>
     ensures { result ≡ line_check n c }
 {
     let o = c.outputs;
     if 15 < o.hmaster {
-        Check::Bad(Refusal::Value)
+        Err(Refusal::Value)
     } else {
         signals::check_cycle(n, c)
     }
@@ -121,59 +120,59 @@ fn trace_whole(s: &[u8], at: usize) -> bool
 }
 
 // A whole line: 4, 5, 6, and 7 of a trace line.
-fn take_stimulus(n: u32, s: &[u8], at: usize) -> StimulusRead
+fn take_stimulus(n: u32, s: &[u8], at: usize) -> Result<Option<(Inputs, usize)>, Refusal>
     requires { at + 16 ≤ length s.now }
     ensures { result ≡ stimulus_checked (inputs_check n (inputs_at s.now at)) s.now at }
 {
     let x = inputs_at(s, at);
     match signals::check_inputs(n, x) {
-        Check::Good => StimulusRead::Line(x, at + 16),
-        Check::Bad(r) => StimulusRead::Refused(r),
+        Ok(()) => Ok(Some((x, at + 16))),
+        Err(r) => Err(r),
     }
 }
 
-fn take_trace(n: u32, s: &[u8], at: usize) -> TraceRead
+fn take_trace(n: u32, s: &[u8], at: usize) -> Result<Option<(Cycle, usize)>, Refusal>
     requires { at + 31 ≤ length s.now }
     ensures { result ≡ trace_checked (line_check n (cycle_at s.now at)) s.now at }
 {
     let c = cycle_at(s, at);
     match check_line(n, c) {
-        Check::Good => TraceRead::Line(c, at + 31),
-        Check::Bad(r) => TraceRead::Refused(r),
+        Ok(()) => Ok(Some((c, at + 31))),
+        Err(r) => Err(r),
     }
 }
 
 // The stimulus line at a position.
-pub fn read_stimulus(n: u32, s: &[u8], at: usize) -> StimulusRead
+pub fn read_stimulus(n: u32, s: &[u8], at: usize) -> Result<Option<(Inputs, usize)>, Refusal>
     ensures { result ≡ read_stimulus_of n s.now at }
 {
     match spot_at(n, s, at) {
-        Spot::Wrong => StimulusRead::Refused(Refusal::Masters),
-        Spot::Beyond => StimulusRead::Refused(Refusal::Shape),
-        Spot::Ended => StimulusRead::NoMore,
+        Spot::Wrong => Err(Refusal::Masters),
+        Spot::Beyond => Err(Refusal::Shape),
+        Spot::Ended => Ok(None),
         Spot::Inside => {
             if stimulus_whole(s, at) {
                 take_stimulus(n, s, at)
             } else {
-                StimulusRead::Refused(Refusal::Shape)
+                Err(Refusal::Shape)
             }
         }
     }
 }
 
 // The trace line at a position.
-pub fn read_trace(n: u32, s: &[u8], at: usize) -> TraceRead
+pub fn read_trace(n: u32, s: &[u8], at: usize) -> Result<Option<(Cycle, usize)>, Refusal>
     ensures { result ≡ read_trace_of n s.now at }
 {
     match spot_at(n, s, at) {
-        Spot::Wrong => TraceRead::Refused(Refusal::Masters),
-        Spot::Beyond => TraceRead::Refused(Refusal::Shape),
-        Spot::Ended => TraceRead::NoMore,
+        Spot::Wrong => Err(Refusal::Masters),
+        Spot::Beyond => Err(Refusal::Shape),
+        Spot::Ended => Ok(None),
         Spot::Inside => {
             if trace_whole(s, at) {
                 take_trace(n, s, at)
             } else {
-                TraceRead::Refused(Refusal::Shape)
+                Err(Refusal::Shape)
             }
         }
     }
@@ -206,38 +205,38 @@ fn put_outputs(c: Cycle, buf: &mut [u8])
 }
 
 // Writes a stimulus line at the start of the buffer: 1, 4, 5, 6, 9.
-pub fn write_stimulus(n: u32, x: Inputs, buf: &mut [u8]) -> Written
+pub fn write_stimulus(n: u32, x: Inputs, buf: &mut [u8]) -> Result<usize, Refusal>
     ensures { (result ≡ write_stimulus_of n x (length buf.old)) × (buf.new ≡ stimulus_written n x buf.old) }
 {
     let k = signals::check_inputs(n, x);
     match fields::for_masters(n, k) {
-        Check::Bad(r) => Written::Refused(r),
-        Check::Good => {
+        Err(r) => Err(r),
+        Ok(()) => {
             if buf.len() < 16 {
-                Written::Refused(Refusal::Short)
+                Err(Refusal::Short)
             } else {
                 put_inputs(x, buf, 10);
-                Written::Bytes(16)
+                Ok(16)
             }
         }
     }
 }
 
 // Writes a trace line at the start of the buffer: 1, 4, 5, 6, 7, 9.
-pub fn write_trace(n: u32, c: Cycle, buf: &mut [u8]) -> Written
+pub fn write_trace(n: u32, c: Cycle, buf: &mut [u8]) -> Result<usize, Refusal>
     ensures { (result ≡ write_trace_of n c (length buf.old)) × (buf.new ≡ trace_written n c buf.old) }
 {
     let k = signals::check_cycle(n, c);
     match fields::for_masters(n, k) {
-        Check::Bad(r) => Written::Refused(r),
-        Check::Good => {
+        Err(r) => Err(r),
+        Ok(()) => {
             if buf.len() < 31 {
-                Written::Refused(Refusal::Short)
+                Err(Refusal::Short)
             } else {
                 let x = c.inputs;
                 put_inputs(x, buf, 9);
                 put_outputs(c, buf);
-                Written::Bytes(31)
+                Ok(31)
             }
         }
     }

@@ -2,6 +2,7 @@
 --
 --   numbered       == a refusal of a line has one of the numbers 3 to 8
 --   judge_stops, arbiter_stops == the turn at a line that is refused
+use Rattle.std.specs.Prelude.{Err, None, Ok, Some}
 use Prim.Native.Nat.{ℕ, ◌+◌, ◌≤◌}
 use mathlib.Core.Path.{◌≡◌, refl, sym, ◌∙◌, ap, subst}
 use mathlib.Core.Bool.{true}
@@ -11,28 +12,22 @@ use borrow.Author.Tests.{le-leb}
 use lib.ListN.{length}
 use Rattle.rules.specs.declared.Refusal.{Refusal}
 use Rattle.rules.specs.declared.Refusal.TheVariants as refusal
-use Rattle.rules.specs.declared.Check.TheVariants.{Good}
 use Rattle.rules.specs.declared.State.{State}
 use Rattle.rules.specs.declared.Inputs.{Inputs}
 use Rattle.rules.specs.declared.Cycle.{Cycle}
-use Rattle.rules.specs.declared.Answer.{Answer}
-use Rattle.rules.specs.declared.Answer.TheVariants.{Refused as Unstepped}
+use Rattle.rules.specs.Results.{Answer}
 use Rattle.rules.specs.Refusals.{number_of}
 use Rattle.rules.specs.Codes.{most_cycles}
 use Rattle.rules.specs.Step.{step_of}
 use Rattle.rules.proofs.WellFormed.{test_of}
 use Rattle.rulebook.specs.declared.Rule.{Rule}
 use Rattle.rulebook.specs.declared.Judge.{Judge}
-use Rattle.rulebook.specs.declared.Verdict.{Verdict}
-use Rattle.rulebook.specs.declared.Verdict.TheVariants.{Refused as Unjudged}
+use Rattle.rulebook.specs.Results.{Verdict}
 use Rattle.rulebook.specs.State.{well_formed}
 use Rattle.rulebook.specs.Step.{refused_of, judge_of, report, breaches}
 use Rattle.rulebook.specs.Promises.{broken_report}
 use Rattle.rulebook.proofs.Promises.{exact_charges, every_valid_trace_is_judged, stays_well_formed}
-use Rattle.formats.specs.declared.StimulusRead.{StimulusRead}
-use Rattle.formats.specs.declared.StimulusRead.TheVariants as stimulus
-use Rattle.formats.specs.declared.TraceRead.{TraceRead}
-use Rattle.formats.specs.declared.TraceRead.TheVariants as trace
+use Rattle.formats.specs.Results.{StimulusRead, TraceRead}
 use Rattle.formats.specs.Lines.{trace_line, stimulus_line, read_stimulus_of, read_trace_of}
 use Rattle.formats.specs.Files.{trace_file, stimulus_file, Line, one, no_more, refused, as_stimulus, as_trace}
 use Rattle.formats.specs.Report.{refused_line}
@@ -80,7 +75,7 @@ refused_by_its_number =
     }
 
 -- the judge's turn: a full judge takes no cycle
-judge_full : (j : Judge) (c : Cycle) → well_formed j ≡ true → j.count ≡ most_cycles → (judge_of j c).verdict ≡ Unjudged refusal.Full
+judge_full : (j : Judge) (c : Cycle) → well_formed j ≡ true → j.count ≡ most_cycles → (judge_of j c).verdict ≡ Err refusal.Full
 unfolding judge_of refused_of
 judge_full j c sound full = simp (sound, le-leb most_cycles j.count (omega (arith, full)))
 
@@ -91,10 +86,10 @@ judge_stops n k b r j rest masters cycles sound h =
     ap (λ (m : ℕ). traced (read_trace_of m rest 0) (tally_of j b)) masters ∙ go (read_trace_of n rest 0) h
   where
     go : (a : TraceRead) → Stops (as_trace a) k r → traced a (tally_of j b) ≡ stops (refused_line (k + 2) r)
-    go (trace.Line c next) h =
+    go (Ok (Some (c, next))) h =
         ap (λ (v : Verdict). judged_to v (judge_of j c) (tally_of j b) next) (judge_full j c sound (cycles ∙ h.0)) ∙ rw (cycles, h.1)
-    go trace.NoMore h = absurd h
-    go (trace.Refused q) h = rw (cycles, h)
+    go (Ok None) h = absurd h
+    go (Err q) h = rw (cycles, h)
 
 pub judges_any_input : JudgesAnyInput
 judges_any_input s (no_header r) h = unfold judge_program in rw h
@@ -111,7 +106,7 @@ judges_any_input s (whole n cs) h =
     ap judge_program (h.bytes ∙ append-nil (trace_file n cs)) ∙ report_is_the_verdict n cs h.masters h.good h.room
 
 -- the arbiter's turn: a full state takes no cycle
-step_full : (s : State) (x : Inputs) (n : ℕ) → Sound n s → s.count ≡ most_cycles → step_of s x ≡ Unstepped refusal.Full s
+step_full : (s : State) (x : Inputs) (n : ℕ) → Sound n s → s.count ≡ most_cycles → step_of s x ≡ Err (refusal.Full, s)
 unfolding step_of
 step_full s x n sound full = simp (test_of s sound.formed, le-leb most_cycles s.count (omega (arith, full)))
 
@@ -122,10 +117,10 @@ arbiter_stops n k r t rest sound cycles h =
     ap (λ (m : ℕ). stimulated (read_stimulus_of m rest 0) t) sound.masters ∙ go (read_stimulus_of n rest 0) h
   where
     go : (a : StimulusRead) → Stops (as_stimulus a) k r → stimulated a t ≡ stops (refused_line (k + 2) r)
-    go (stimulus.Line x next) h =
+    go (Ok (Some (x, next))) h =
         ap (λ (a : Answer). stepped a x t next) (step_full t x n sound (cycles ∙ h.0)) ∙ rw (cycles, h.1)
-    go stimulus.NoMore h = absurd h
-    go (stimulus.Refused q) h = rw (cycles, h)
+    go (Ok None) h = absurd h
+    go (Err q) h = rw (cycles, h)
 
 pub arbitrates_any_input : ArbitratesAnyInput
 arbitrates_any_input s (no_header r) h = unfold arbiter_program in rw h
@@ -158,11 +153,11 @@ arbitrates_any_input s (whole n xs) h =
     }
 
 -- a million good lines, and the line after them
-module _ {A : Type 0} (K : Kind A) (n : ℕ) (l : List A) (range : InRange n) (good : Each (λ a. K.check n a ≡ Good) l) (full : length l ≡ most_cycles) where
+module _ {A : Type 0} (K : Kind A) (n : ℕ) (l : List A) (range : InRange n) (good : Each (λ a. K.check n a ≡ Ok tt) l) (full : length l ≡ most_cycles) where
   full_begins : (rest : List ℕ) → Begins K (file_for K n l ++ rest) n l rest
   full_begins rest = record { masters = range; good = good; room = omega (arith, full); bytes = refl }
 
-  has_full : (laws : Laws K) (a : A) (rest : List ℕ) → K.check n a ≡ Good
+  has_full : (laws : Laws K) (a : A) (rest : List ℕ) → K.check n a ≡ Ok tt
       → Has K (file_for K n l ++ (K.line a ++ rest)) (cut_after n l refusal.Full)
   has_full laws a rest valid = (
     K.line a ++ rest,

@@ -3,6 +3,7 @@
 --   each_those == of the rules that have f, each is what having f makes it
 --   each_place == of the list f 0, f 1, .., likewise
 --   only_assumptions == no rule of the broken ones is a guarantee
+use Rattle.std.specs.Prelude.{Ok}
 use Prim.Native.Nat.{ℕ, zero, suc, ◌<◌}
 use mathlib.Core.Path.{◌≡◌, refl, sym, ◌∙◌}
 use mathlib.Core.Bool.{Bool, true, false, cond, true≢false}
@@ -11,7 +12,6 @@ use native.Mathlib.Omega.{arith}
 use lib.ListN.{length}
 use Rattle.rules.specs.declared.State.{State}
 use Rattle.rules.specs.declared.Inputs.{Inputs}
-use Rattle.rules.specs.declared.Start.TheVariants.{Ready}
 use Rattle.rules.specs.State.{reset_of}
 use Rattle.rulebook.specs.declared.Rule.{Rule}
 use Rattle.rulebook.specs.Rules.{rules, those, broken_at, broken_rules}
@@ -36,7 +36,7 @@ unfolding each
 each_place P zero f h = tt
 each_place P (suc k) f h = (h 0 (omega arith), each_place P k (λ t. f (suc t)) (λ t below. h (suc t) (omega arith)))
 
-module _ (n : ℕ) (s t : State) (xs : List Inputs) (began : reset_of n ≡ Ready s) (r : Run arbiter s xs t) where
+module _ (n : ℕ) (s t : State) (xs : List Inputs) (began : reset_of n ≡ Ok s) (r : Run arbiter s xs t) where
   -- a guarantee is not broken
   broken_assumed : (k : ℕ) → k < length (trace_of r) → (q : Rule) → broken_at n q (trace_of r) k ≡ true → is_guarantee q ≡ false
   broken_assumed k below q broken = go (is_guarantee q) refl

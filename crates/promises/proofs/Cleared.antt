@@ -3,13 +3,13 @@
 --   valid_trace  == every cycle of a run's trace is valid for n
 --   trace_length == and there are not too many
 --   cleared      == the judge's verdict
+use Rattle.std.specs.Prelude.{Ok}
 use Prim.Native.Nat.{ℕ, zero, suc, ◌+◌, ◌<◌}
 use mathlib.Core.Path.{◌≡◌, refl, sym, ◌∙◌, subst}
 use mathlib.Core.Bool.{true≢false}
 use mathlib.Core.List.{List}
 use native.Mathlib.Omega.{arith}
 use lib.ListN.{length, get_or}
-use Rattle.rules.specs.declared.Check.TheVariants.{Good}
 use Rattle.rules.specs.declared.State.{State}
 use Rattle.rules.specs.declared.Inputs.{Inputs}
 use Rattle.rules.specs.declared.Outputs.{Outputs}
@@ -27,13 +27,13 @@ use Rattle.promises.specs.Promises.{ClearedByTheJudge}
 use Rattle.promises.proofs.Fair.{Sound, run_sound}
 use Rattle.promises.proofs.Unbroken.{breaks_no_guarantee}
 
-valid_trace : (n : ℕ) {s t : State} {xs : List Inputs} → Sound n s → (r : Run arbiter s xs t) → (k : ℕ) → k < length (trace_of r) → cycle_check n (get_or (trace_of r) k no_cycle) ≡ Good
+valid_trace : (n : ℕ) {s t : State} {xs : List Inputs} → Sound n s → (r : Run arbiter s xs t) → (k : ℕ) → k < length (trace_of r) → cycle_check n (get_or (trace_of r) k no_cycle) ≡ Ok tt
 unfolding trace_of
 valid_trace n f stop k l = absurd (omega arith)
 valid_trace n f (more {s = s} {s' = s'} {o = o} {x = x} e r) zero l =
     let t = taken s x s' o e in
-    subst (λ (m : ℕ). cycle_check m (record { inputs = x; outputs = o }) ≡ Good) f.masters
-    (subst (λ (u : Outputs). cycle_check s.n (record { inputs = x; outputs = u }) ≡ Good) (sym t.shows) (valid_shown s x (decide s x) t.sound t.good))
+    subst (λ (m : ℕ). cycle_check m (record { inputs = x; outputs = o }) ≡ Ok tt) f.masters
+    (subst (λ (u : Outputs). cycle_check s.n (record { inputs = x; outputs = u }) ≡ Ok tt) (sym t.shows) (valid_shown s x (decide s x) t.sound t.good))
 valid_trace n f (more {s = s} {s' = s'} {o = o} {x = x} e r) (suc k) l =
     let t = taken s x s' o e in
     valid_trace n (record { formed = kept s x s' o t; masters = next_n s x s' o t ∙ f.masters }) r k (omega arith)

@@ -15,8 +15,7 @@ use lib.Seq.{drop-append_seam}
 use Rattle.rules.specs.declared.Cycle.{Cycle}
 use Rattle.rules.specs.Codes.{most_cycles}
 use Rattle.formats.specs.declared.Word.TheVariants.{Trace}
-use Rattle.formats.specs.declared.HeaderRead.{HeaderRead}
-use Rattle.formats.specs.declared.TraceRead.{TraceRead}
+use Rattle.formats.specs.Results.{HeaderRead, TraceRead}
 use Rattle.formats.specs.Lines.{trace_line}
 use Rattle.formats.specs.Headers.{header, read_header_of}
 use Rattle.formats.specs.Files.{lines_of, trace_file}

@@ -4,6 +4,7 @@
 --   steps_found == there are such steps, whatever stands before them
 --   steps_same  == and no others
 --   every_dump_has_one_form == the promise
+use Rattle.std.specs.Prelude.{Err, None, Ok, Some}
 use Prim.Native.Nat.{ℕ, zero, suc, ◌+◌, ◌≤◌, ◌<◌}
 use mathlib.Core.Path.{◌≡◌, refl, sym, ◌∙◌, ap, subst}
 use mathlib.Core.Bool.{Bool, true, false, true≢false}
@@ -12,13 +13,11 @@ use native.Mathlib.Nat.{add-zero}
 use native.Mathlib.Omega.{arith}
 use lib.ListN.{length, take, drop, length-append, length-drop, take-append-drop}
 use lib.Seq.{drop-append_seam}
+use Rattle.rules.proofs.Parts.{line_parts, ok_parts}
 use Rattle.rules.specs.declared.Refusal.{Refusal}
 use Rattle.rules.specs.declared.Cycle.{Cycle}
 use Rattle.rules.specs.Codes.{most_cycles}
-use Rattle.formats.specs.declared.HeaderRead.{HeaderRead}
-use Rattle.formats.specs.declared.HeaderRead.TheVariants as head
-use Rattle.formats.specs.declared.TraceRead.{TraceRead}
-use Rattle.formats.specs.declared.TraceRead.TheVariants.{Line, NoMore, Refused}
+use Rattle.formats.specs.Results.{HeaderRead, TraceRead}
 use Rattle.formats.specs.Promises.{InRange, Each, ValidCycle}
 use Rattle.waves.specs.Header.{dump_header, read_dump_header_of}
 use Rattle.waves.specs.Steps.{dump_step}
@@ -34,9 +33,9 @@ use Rattle.promises.proofs.Recalled.{steps_end, behind}
 
 -- what ends the good steps is no step
 abbrev is_step : TraceRead → Bool
-is_step (Line c next) = true
-is_step NoMore = false
-is_step (Refused r) = false
+is_step (Ok (Some (c, next))) = true
+is_step (Ok None) = false
+is_step (Err r) = false
 
 module _ (n : ℕ) (range : InRange n) (s : List ℕ) where
   abbrev after : List ℕ → ℕ → Cycle → List Cycle → TraceRead
@@ -91,7 +90,7 @@ module _ (n : ℕ) (range : InRange n) (s : List ℕ) where
       }
 
   first_stands : (pre : List ℕ) (t : ℕ) (prev c : Cycle) (cs : List Cycle) → Stand pre t prev (c ∷ cs)
-      → read_step_of n t prev s (length pre) ≡ Line c (length pre + length (dump_step prev t c))
+      → read_step_of n t prev s (length pre) ≡ Ok (Some (c, length pre + length (dump_step prev t c)))
   unfolding steps_of
   first_stands pre t prev c cs r =
       rw (r.bytes, append_assoc (dump_step prev t c) (steps_of c (suc t) cs) r.rest)
@@ -118,9 +117,9 @@ module _ (n : ℕ) (range : InRange n) (s : List ℕ) where
       go : (r : TraceRead) → read_step_of n t prev s (length pre) ≡ r
           → ((t : ℕ) (prev : Cycle) (pre rest : List ℕ) → s ≡ pre ++ rest → length rest < k → t ≤ most_cycles → (cs : List Cycle) × Stand pre t prev cs)
           → (cs : List Cycle) × Stand pre t prev cs
-      go NoMore e later = ([], stand_none pre rest t prev at room (ap is_step e))
-      go (Refused r) e later = ([], stand_none pre rest t prev at room (ap is_step e))
-      go (Line c next) e later =
+      go (Ok None) e later = ([], stand_none pre rest t prev at room (ap is_step e))
+      go (Err r) e later = ([], stand_none pre rest t prev at room (ap is_step e))
+      go (Ok (Some (c, next))) e later =
           let w = read_step_writes n t prev s (length pre) c next e in
           let size : ℕ = length (dump_step prev t c) in
           let here : drop (length pre) s ≡ rest = ap (drop (length pre)) at ∙ drop-append_seam pre rest in
@@ -146,7 +145,7 @@ module _ (n : ℕ) (range : InRange n) (s : List ℕ) where
   steps_same (c ∷ cs) (d ∷ ds) pre t prev f g =
       let e = first_stands pre t prev c cs f in
       let e' = first_stands pre t prev d ds g in
-      let same : d ≡ c = cc in
+      let same = sym (line_parts (sym e ∙ e')).0 in
       let others = others_stand pre t prev d ds g in
       let rest : cs ≡ ds = steps_same cs ds (pre ++ dump_step prev t c) (suc t) c (others_stand pre t prev c cs f) (rw same at others) in
       cc
@@ -159,7 +158,7 @@ module _ (s : List ℕ) where
   -- a header, good steps, and what ends them
   record Stepped (n : ℕ) (cs : List Cycle) : Type 0 where
     range : InRange n
-    reads : read_dump_header_of s ≡ head.Header n (length (dump_header n))
+    reads : read_dump_header_of s ≡ Ok (n, length (dump_header n))
     stand : Stand n range s (dump_header n) 0 no_cycle cs
 
   -- where the step after the good ones stands
@@ -191,7 +190,7 @@ module _ (s : List ℕ) where
   cut_stepped n cs r h = stepped n cs h.0 h.1 (ap is_step h.2)
 
   -- at the end of a whole dump there is no more step
-  whole_end : (n : ℕ) (cs : List Cycle) → HasDump s (whole n cs) → read_step_of n (length cs) (last_of no_cycle cs) s (length (dump n cs)) ≡ NoMore
+  whole_end : (n : ℕ) (cs : List Cycle) → HasDump s (whole n cs) → read_step_of n (length cs) (last_of no_cycle cs) s (length (dump n cs)) ≡ Ok None
   whole_end n cs h =
       let at : s ≡ dump n cs = h.bytes ∙ append-nil (dump n cs) in
       ap (λ (l : List ℕ). read_step_of n (length cs) (last_of no_cycle cs) s (length l)) (sym at)
@@ -202,9 +201,7 @@ module _ (s : List ℕ) where
 
   agree : (n m : ℕ) (cs ds : List Cycle) → Stepped n cs → Stepped m ds → (n ≡ m) × (cs ≡ ds)
   agree n m cs ds f g =
-      let e = f.reads in
-      let e' = g.reads in
-      let same : m ≡ n = cc in
+      let same = sym (ok_parts (sym f.reads ∙ g.reads)).0 in
       (sym same, go m same ds g.range g.stand)
     where
       go : (m : ℕ) → m ≡ n → (ds : List Cycle) (range : InRange m) → Stand m range s (dump_header m) 0 no_cycle ds → cs ≡ ds
@@ -223,7 +220,7 @@ module _ (s : List ℕ) where
   uncut : {P : Type 0} (n m : ℕ) (cs ds : List Cycle) (r : Refusal) → HasDump s (cut_after n cs r) → HasDump s (whole m ds) → P
   uncut n m cs ds r h g =
       let e = agree n m cs ds (cut_stepped n cs r h) (whole_stepped m ds g) in
-      let x : read_step_of n (length cs) (last_of no_cycle cs) s (length (dump n cs)) ≡ NoMore = rw (e.0, e.1) (whole_end m ds g) in
+      let x : read_step_of n (length cs) (last_of no_cycle cs) s (length (dump n cs)) ≡ (Ok None) = rw (e.0, e.1) (whole_end m ds g) in
       let y = h.2 in
       let z : ◌≡◌ {A = ℕ} 0 1 = cc in
       absurd (omega arith)
@@ -235,7 +232,7 @@ module _ (s : List ℕ) where
   forms_same (cut_after n l r) (no_header q) h k = unread q n l k (cut_stepped n l r h)
   forms_same (cut_after n l r) (cut_after m j q) h k =
       let e = agree n m l j (cut_stepped n l r h) (cut_stepped m j q k) in
-      let x : read_step_of n (length l) (last_of no_cycle l) s (length (dump n l)) ≡ Refused q = rw (e.0, e.1) k.2 in
+      let x : read_step_of n (length l) (last_of no_cycle l) s (length (dump n l)) ≡ Err q = rw (e.0, e.1) k.2 in
       let y = h.2 in
       let same : r ≡ q = cc in
       cc
@@ -267,19 +264,19 @@ module _ (s : List ℕ) where
           rw (length-append (dump_header n) (steps_of no_cycle 0 cs)) (rw none at t.end)
 
       go : (x : TraceRead) → read_step_of n (length cs) (last_of no_cycle cs) s (length (dump n cs)) ≡ x → (f : Form Cycle) × HasDump s f
-      go NoMore e =
+      go (Ok None) e =
           let size = ap length begins.bytes ∙ length-append (dump n cs) t.rest in
           let none : t.rest ≡ [] = nothing t.rest (omega (arith, end_read n (length cs) (last_of no_cycle cs) s (length (dump n cs)) e)) in
           (whole n cs, subst (DumpBegins s n cs) none begins)
-      go (Refused r) e = (cut_after n cs r, (t.rest, begins, e))
-      go (Line c next) e = absurd (true≢false (sym (ap is_step e) ∙ end))
+      go (Err r) e = (cut_after n cs r, (t.rest, begins, e))
+      go (Ok (Some (c, next))) e = absurd (true≢false (sym (ap is_step e) ∙ end))
 
   form_of : (f : Form Cycle) × HasDump s f
   form_of = go (read_dump_header_of s) refl
     where
       go : (h : HeaderRead) → read_dump_header_of s ≡ h → (f : Form Cycle) × HasDump s f
-      go (head.Refused r) e = (no_header r, e)
-      go (head.Header n next) e =
+      go (Err r) e = (no_header r, e)
+      go (Ok (n, next)) e =
           let h = read_dump_header_writes s n next e in
           let at : s ≡ dump_header n ++ drop next s =
           sym (take-append-drop next s) ∙ ap (λ (l : List ℕ). l ++ drop next s) (sym h.2) in

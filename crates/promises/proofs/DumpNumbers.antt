@@ -1,6 +1,7 @@
 -- Which refusals the readers of a dump give: 12 and 1 for a header; for a step, once n is tested, 3 to 8, 13 and 14.
 --
 --   dumps_refused_by_number == the promise of specs/Waves.antt
+use Rattle.std.specs.Prelude.{Err, Ok}
 use Prim.Native.Nat.{ℕ, ◌+◌, ◌-◌, ◌*◌, ◌≤◌}
 use mathlib.Core.Path.{◌≡◌, refl, sym, ap}
 use mathlib.Core.Logic.{◌⊎◌, inl, inr}
@@ -10,16 +11,12 @@ use lib.Dec.{eqb, ltb}
 use lib.ListN.{length, get_or, drop}
 use Rattle.rules.specs.declared.Refusal.{Refusal}
 use Rattle.rules.specs.declared.Refusal.TheVariants as refusal
-use Rattle.rules.specs.declared.Check.{Check}
-use Rattle.rules.specs.declared.Check.TheVariants.{Good, Bad}
+use Rattle.rules.specs.Results.{Check}
 use Rattle.rules.specs.declared.Cycle.{Cycle}
 use Rattle.rules.specs.Refusals.{number_of}
 use Rattle.rules.specs.State.{masters_ok}
 use Rattle.rules.proofs.Choice.{cond_elim}
-use Rattle.formats.specs.declared.HeaderRead.{HeaderRead}
-use Rattle.formats.specs.declared.HeaderRead.TheVariants as head
-use Rattle.formats.specs.declared.TraceRead.{TraceRead}
-use Rattle.formats.specs.declared.TraceRead.TheVariants.{Refused}
+use Rattle.formats.specs.Results.{HeaderRead, TraceRead}
 use Rattle.formats.specs.Headers.{ranged}
 use Rattle.formats.specs.Lines.{line_check}
 use Rattle.formats.specs.Promises.{InRange}
@@ -30,13 +27,13 @@ use Rattle.waves.specs.Reading.{step_text, wrong_time, full_time, unknown_in, st
 use Rattle.promises.specs.Waves.{DumpsRefusedByNumber}
 
 abbrev Given : Refusal → HeaderRead → Type 0
-Given r a = a ≡ head.Refused r → (number_of r ≡ 12) ⊎ (number_of r ≡ 1)
+Given r a = a ≡ Err r → (number_of r ≡ 12) ⊎ (number_of r ≡ 1)
 
 abbrev OfAStep : Refusal → Type 0
 OfAStep r = ((3 ≤ number_of r) × (number_of r ≤ 8)) ⊎ ((13 ≤ number_of r) × (number_of r ≤ 14))
 
 abbrev Found : Refusal → TraceRead → Type 0
-Found r a = a ≡ Refused r → OfAStep r
+Found r a = a ≡ Err r → OfAStep r
 
 module _ (r : Refusal) where
   ranged_gives : (n next : ℕ) → Given r (ranged n next)
@@ -45,7 +42,7 @@ module _ (r : Refusal) where
       (λ ok e. let z : ◌≡◌ {A = ℕ} 0 1 = cc in absurd (omega arith))
       (λ ok e. let i : refusal.Masters ≡ r = cc in inr (ap number_of (sym i)))
 
-  other_gives : Given r (head.Refused refusal.Dump)
+  other_gives : Given r (Err refusal.Dump)
   other_gives e = let i : refusal.Dump ≡ r = cc in inl (ap number_of (sym i))
 
   masters_give : (s : List ℕ) (p : ℕ) → Given r (masters_in s p)
@@ -63,8 +60,8 @@ module _ (r : Refusal) where
   header_gives s = cond_elim (Given r) (begins s opening) (λ ours. masters_give s (length opening)) (λ other. other_gives)
 
   checked_gives : (n : ℕ) (c : Cycle) (k : Check) (next : ℕ) → line_check n c ≡ k → Found r (step_checked k c next)
-  checked_gives n c Good next f e = let z : ◌≡◌ {A = ℕ} 0 1 = cc in absurd (omega arith)
-  checked_gives n c (Bad q) next f e =
+  checked_gives n c (Ok _) next f e = let z : ◌≡◌ {A = ℕ} 0 1 = cc in absurd (omega arith)
+  checked_gives n c (Err q) next f e =
       let i : q ≡ r = cc in
       let g = rw i at (line_gives n c q f) in
       inl (omega arith)

@@ -2,6 +2,7 @@
 --
 --   steps_refuse   == good steps, and then one that is refused
 --   refused_dumps_are_told == the promise of specs/Waves.antt
+use Rattle.std.specs.Prelude.{Err, Ok, Some}
 use Prim.Native.Nat.{ℕ, zero, suc, ◌+◌, ◌≤◌, ◌<◌}
 use mathlib.Core.Path.{◌≡◌, sym, ◌∙◌, ap}
 use mathlib.Core.List.{List, [], ◌∷◌, ◌++◌, append_assoc}
@@ -12,9 +13,7 @@ use lib.Seq.{take-append_seam}
 use Rattle.rules.specs.declared.Refusal.{Refusal}
 use Rattle.rules.specs.declared.Cycle.{Cycle}
 use Rattle.rules.specs.Codes.{most_cycles}
-use Rattle.formats.specs.declared.HeaderRead.{HeaderRead}
-use Rattle.formats.specs.declared.HeaderRead.TheVariants.{Header}
-use Rattle.formats.specs.declared.TraceRead.TheVariants.{Line, Refused}
+use Rattle.formats.specs.Results.{HeaderRead}
 use Rattle.formats.specs.Files.{refused_at}
 use Rattle.formats.specs.Promises.{InRange, Each, ValidCycle}
 use Rattle.waves.specs.Header.{dump_header, read_dump_header_of}
@@ -29,7 +28,7 @@ use Rattle.promises.proofs.Recalled.{steps_end, behind, steps_long}
 module _ (n : ℕ) (range : InRange n) (s : List ℕ) where
   steps_refuse : (cs : List Cycle) (k t : ℕ) (prev : Cycle) (pre rest : List ℕ) (r : Refusal) → s ≡ pre ++ (steps_of prev t cs ++ rest)
       → Each (ValidCycle n) cs → t + length cs ≤ most_cycles → length cs < k → Behind cs rest
-      → read_step_of n (t + length cs) (last_of prev cs) s (length pre + length (steps_of prev t cs)) ≡ Refused r
+      → read_step_of n (t + length cs) (last_of prev cs) s (length pre + length (steps_of prev t cs)) ≡ Err r
       → steps_from k n t prev s (length pre) ≡ refused_at (line_at s (length pre + length (steps_of prev t cs))) r
   unfolding steps_from steps_of
   steps_refuse cs zero t prev pre rest r at valid room fuel ends e = absurd (omega arith)
@@ -40,7 +39,7 @@ module _ (n : ℕ) (range : InRange n) (s : List ℕ) where
       let step : List ℕ = dump_step prev t c in
       let post : List ℕ = steps_of c (suc t) cs in
       let there : s ≡ pre ++ (step ++ (post ++ rest)) = at ∙ ap (λ (l : List ℕ). pre ++ l) (append_assoc step post rest) in
-      let first : read_step_of n t prev s (length pre) ≡ Line c (length pre + length step) =
+      let first : read_step_of n t prev s (length pre) ≡ Ok (Some (c, length pre + length step)) =
       rw there (written_step_reads n t prev c pre (post ++ rest) range (omega arith) valid.0 (steps_end cs (suc t) c rest ends)) in
       let count : t + suc (length cs) ≡ suc t + length cs = omega arith in
       let place : length pre + length (step ++ post) ≡ length (pre ++ step) + length post =
@@ -62,7 +61,7 @@ dump_refused s n cs r h =
     let rest : List ℕ = h.0 in
     let steps : List ℕ = steps_of no_cycle 0 cs in
     let at : s ≡ dump_header n ++ (steps ++ rest) = b.bytes ∙ append_assoc (dump_header n) steps rest in
-    let reads : read_dump_header_of s ≡ Header n (length (dump_header n)) = rw at (written_dump_header_reads n (steps ++ rest) b.masters) in
+    let reads : read_dump_header_of s ≡ Ok (n, length (dump_header n)) = rw at (written_dump_header_reads n (steps ++ rest) b.masters) in
     let none : 0 + length cs ≡ length cs = omega arith in
     let size : length s ≡ length (dump_header n) + (length steps + length rest) =
     ap length at ∙ length-append (dump_header n) (steps ++ rest) ∙ ap (λ (k : ℕ). length (dump_header n) + k) (length-append steps rest) in

@@ -6,6 +6,7 @@
 --   lines_found  == there are such lines, whatever stands before them
 --   lines_same   == and no others
 --   one_form     == the promise, for a kind with these laws
+use Rattle.std.specs.Prelude.{Err, Ok}
 use Prim.Native.Nat.{ℕ, zero, suc, ◌+◌, ◌≤◌, ◌<◌}
 use mathlib.Core.Path.{◌≡◌, refl, sym, ◌∙◌, ap, subst}
 use mathlib.Core.List.{List, [], ◌∷◌, ◌++◌, append_assoc, append-nil}
@@ -13,12 +14,11 @@ use native.Mathlib.Nat.{add-zero, suc_inj}
 use native.Mathlib.Omega.{arith}
 use lib.ListN.{length, take, drop, length-append, length-take, length-drop, take-append-drop}
 use lib.Seq.{drop-append_seam}
+use Rattle.rules.proofs.Parts.{ok_parts}
 use Rattle.rules.specs.declared.Refusal.{Refusal}
 use Rattle.rules.specs.declared.Refusal.TheVariants as refusal
-use Rattle.rules.specs.declared.Check.TheVariants.{Good}
 use Rattle.rules.specs.Codes.{most_cycles}
-use Rattle.formats.specs.declared.HeaderRead.{HeaderRead}
-use Rattle.formats.specs.declared.HeaderRead.TheVariants as head
+use Rattle.formats.specs.Results.{HeaderRead}
 use Rattle.formats.specs.Headers.{header, read_header_of}
 use Rattle.formats.specs.Files.{lines_of, Line, one, no_more, refused}
 use Rattle.formats.specs.Promises.{InRange, Each}
@@ -29,10 +29,10 @@ pub record Laws {A : Type 0} (K : Kind A) : Type 0 where
   pub size : ℕ
   pub some : 0 < size
   pub long : (a : A) → length (K.line a) ≡ size
-  pub reads : (n : ℕ) (a : A) (pre post : List ℕ) → InRange n → K.check n a ≡ Good
+  pub reads : (n : ℕ) (a : A) (pre post : List ℕ) → InRange n → K.check n a ≡ Ok tt
       → K.read n (pre ++ (K.line a ++ post)) (length pre) ≡ one a (length pre + size)
   pub wrote : (n : ℕ) (s : List ℕ) (p : ℕ) (a : A) (next : ℕ) → K.read n s p ≡ one a next
-      → (K.check n a ≡ Good) × (next ≡ p + size) × (K.line a ≡ take size (drop p s))
+      → (K.check n a ≡ Ok tt) × (next ≡ p + size) × (K.line a ≡ take size (drop p s))
   pub ends : (n : ℕ) (s : List ℕ) → InRange n → K.read n s (length s) ≡ no_more
   pub only : (n : ℕ) (s : List ℕ) (p : ℕ) → K.read n s p ≡ no_more → p ≡ length s
 
@@ -58,7 +58,7 @@ module _ {A : Type 0} (K : Kind A) (laws : Laws K) (n : ℕ) (s : List ℕ) wher
   after pre l = K.read n s (length pre + length (lines_of K.line l))
 
   record Stand (pre : List ℕ) (room : ℕ) (l : List A) : Type 0 where
-    good : Each (λ a. K.check n a ≡ Good) l
+    good : Each (λ a. K.check n a ≡ Ok tt) l
     few : length l ≤ room
     rest : List ℕ
     bytes : s ≡ pre ++ (lines_of K.line l ++ rest)
@@ -92,7 +92,7 @@ module _ {A : Type 0} (K : Kind A) (laws : Laws K) (n : ℕ) (s : List ℕ) wher
   regroup : (pre : List ℕ) (a : A) (l rest : List ℕ) → pre ++ ((K.line a ++ l) ++ rest) ≡ (pre ++ K.line a) ++ (l ++ rest)
   regroup pre a l rest = simp append_assoc
 
-  stand_more : (pre : List ℕ) (room : ℕ) (a : A) (l : List A) → K.check n a ≡ Good → Stand (pre ++ K.line a) room l → Stand pre (suc room) (a ∷ l)
+  stand_more : (pre : List ℕ) (room : ℕ) (a : A) (l : List A) → K.check n a ≡ Ok tt → Stand (pre ++ K.line a) room l → Stand pre (suc room) (a ∷ l)
   unfolding lines_of
   stand_more pre room a l good t =
       record {
@@ -185,7 +185,7 @@ module _ {A : Type 0} (K : Kind A) (laws : Laws K) (s : List ℕ) where
   -- a header, good lines, and what ends them
   record Lined (n : ℕ) (l : List A) : Type 0 where
     range : InRange n
-    reads : read_header_of K.word s ≡ head.Header n (length (header K.word n))
+    reads : read_header_of K.word s ≡ Ok (n, length (header K.word n))
     stand : Stand K laws n s (header K.word n) most_cycles l
 
   lined : (n : ℕ) (l : List A) (rest : List ℕ) → Begins K s n l rest → End (K.read n s (length (file_for K n l))) (length l) most_cycles → Lined n l
@@ -220,9 +220,7 @@ module _ {A : Type 0} (K : Kind A) (laws : Laws K) (s : List ℕ) where
 
   agree : (n m : ℕ) (l k : List A) → Lined n l → Lined m k → (n ≡ m) × (l ≡ k)
   agree n m l k f g =
-      let e = f.reads in
-      let e' = g.reads in
-      let same : m ≡ n = cc in
+      let same = sym (ok_parts (sym f.reads ∙ g.reads)).0 in
       let t : Stand K laws n s (header K.word n) most_cycles k =
       subst (λ (i : ℕ). Stand K laws i s (header K.word i) most_cycles k) same g.stand in
       (sym same, lines_same K laws n s f.range l k (header K.word n) most_cycles f.stand t)
@@ -294,8 +292,8 @@ module _ {A : Type 0} (K : Kind A) (laws : Laws K) (s : List ℕ) where
   form_of = go (read_header_of K.word s) refl
     where
       go : (h : HeaderRead) → read_header_of K.word s ≡ h → (f : Form A) × Has K s f
-      go (head.Refused r) e = (no_header r, e)
-      go (head.Header n next) e =
+      go (Err r) e = (no_header r, e)
+      go (Ok (n, next)) e =
           let h = read_header_writes K.word s n next e in
           let at : s ≡ header K.word n ++ drop next s =
           sym (take-append-drop next s) ∙ ap (λ (l : List ℕ). l ++ drop next s) (sym h.2) in

@@ -4,6 +4,7 @@
 --   Stepped, stepped == what a step that answered 0 did
 --   RunOf, run_of_calls == calls from the bytes of the judge of a history judge what follows it
 --   calls_of  == and every list of cycles that the judge takes has such calls
+use Rattle.std.specs.Prelude.{Err, Ok}
 use Prim.Native.Nat.{ℕ, zero, suc, ◌≤◌, ◌<◌}
 use mathlib.Core.Path.{◌≡◌, refl, sym, ◌∙◌, ap, subst}
 use mathlib.Core.Bool.{Bool}
@@ -18,8 +19,7 @@ use Rattle.rulebook.specs.declared.Rule.TheVariants.{A1}
 use Rattle.rulebook.specs.declared.Judge.{Judge}
 use Rattle.rulebook.specs.declared.Judgement.{Judgement}
 use Rattle.rulebook.specs.declared.Started.{Started}
-use Rattle.rulebook.specs.declared.Verdict.{Verdict}
-use Rattle.rulebook.specs.declared.Verdict.TheVariants.{Taken, Refused}
+use Rattle.rulebook.specs.Results.{Verdict}
 use Rattle.rulebook.specs.Traces.{so_far_after}
 use Rattle.rulebook.specs.Rules.{rules, broken, broken_at}
 use Rattle.rulebook.specs.State.{start_of}
@@ -70,7 +70,7 @@ module _ (j : Judge) (c : Cycle) (rest buffer : List ℕ) (s : Sound j) where
   ruling space = long_enough lent buffer c (bytes_room j rest s) space ∙ rw (read_again j rest s)
 
   record Stepped (judge' mask : List ℕ) : Type 0 where
-    verdict : (judge_of j c).verdict ≡ Taken
+    verdict : (judge_of j c).verdict ≡ Ok tt
     bytes : judge' ≡ judge_bytes (judge_of j c).judge ++ rest
     writes : mask ≡ mask_stored (mask_of (judge_of j c).charged) buffer
 
@@ -86,17 +86,17 @@ module _ (j : Judge) (c : Cycle) (rest buffer : List ℕ) (s : Sound j) where
           × (judge' ≡ judge_after (ruling_of (judge_of j c)) lent)
           × (mask ≡ broken_after (ruling_of (judge_of j c)) buffer)
           → Stepped judge' mask
-      go Taken q m =
+      go (Ok _) q m =
           let e = rw q at m in
           record {
             verdict = q;
             bytes = e.1 ∙ ap (λ (l : List ℕ). judge_bytes (judge_of j c).judge ++ l) (rest_of j rest s);
             writes = e.2;
           }
-      go (Refused r) q m = let e = rw q at m in absurd (omega (arith, refusal_some r, e.0))
+      go (Err r) q m = let e = rw q at m in absurd (omega (arith, refusal_some r, e.0))
 
 -- a call that is taken is a cycle that the judge takes, and says what is broken at it: j is the judge of the history h
-module _ (n : ℕ) (pos : 0 < n) (j : Judge) (c : Cycle) (h : List Cycle) (kept : j ≡ kept_of n h) (e : (judge_of j c).verdict ≡ Taken) where
+module _ (n : ℕ) (pos : 0 < n) (j : Judge) (c : Cycle) (h : List Cycle) (kept : j ≡ kept_of n h) (e : (judge_of j c).verdict ≡ Ok tt) where
   next_kept : (judge_of j c).judge ≡ kept_of n (c ∷ h)
   next_kept = next_judge_lem j c (step_taken j c e) ∙ ap (λ (k : Judge). next_judge k c) kept ∙ kept_step n h c pos
 
@@ -111,12 +111,12 @@ module _ (n : ℕ) (pos : 0 < n) (j : Judge) (c : Cycle) (h : List Cycle) (kept 
       rw (m, charged_is)
       (mask_read (charges j c) buffer i below ∙ ap (λ (k : Judge). charges k c r) kept ∙ exact n h c pos r)
 
-next_sound : (j : Judge) (c : Cycle) → Sound j → (judge_of j c).verdict ≡ Taken → Sound (judge_of j c).judge
+next_sound : (j : Judge) (c : Cycle) → Sound j → (judge_of j c).verdict ≡ Ok tt → Sound (judge_of j c).judge
 next_sound j c s e = let t = step_taken j c e in rw (next_judge_lem j c t) (step_sound j c s t.good t.room)
 
 -- the names of a first cycle and of those that follow
 named : (n : ℕ) → 0 < n → (h : List Cycle) (j : Judge) (c : Cycle) (cs : List Cycle) (masks : List (List ℕ)) (buffer mask : List ℕ) → j ≡ kept_of n h
-    → (judge_of j c).verdict ≡ Taken → mask ≡ mask_stored (mask_of (judge_of j c).charged) buffer
+    → (judge_of j c).verdict ≡ Ok tt → mask ≡ mask_stored (mask_of (judge_of j c).charged) buffer
     → ((t i : ℕ) → t < length cs → i < length rules → bit_of (get_or masks t []) i ≡ broken n (get_or rules i A1) (so_far_after (c ∷ h) cs t))
     → (t i : ℕ) → t < length (c ∷ cs) → i < length rules → bit_of (get_or (mask ∷ masks) t []) i ≡ broken n (get_or rules i A1) (so_far_after h (c ∷ cs) t)
 unfolding so_far_after
@@ -153,7 +153,7 @@ run_of_calls (refused {judge = judge} {judge' = judge'} c buffer mask number som
 
 -- a start that answered 0
 started : (n : ℕ) (lent judge : List ℕ) → JudgeStartCall n lent 0 judge
-    → ((start_of n).verdict ≡ Taken) × (judge ≡ judge_bytes (start_of n).judge ++ drop judge_size lent)
+    → ((start_of n).verdict ≡ Ok tt) × (judge ≡ judge_bytes (start_of n).judge ++ drop judge_size lent)
 unfolding judge_stored
 started n lent judge call =
     order judge_size (length lent)
@@ -162,9 +162,9 @@ started n lent judge call =
   where
     go : (v : Verdict) → (start_of n).verdict ≡ v
         → (0 ≡ number_of (start_of n).verdict) × (judge ≡ start_after (start_of n) lent)
-        → ((start_of n).verdict ≡ Taken) × (judge ≡ judge_bytes (start_of n).judge ++ drop judge_size lent)
-    go Taken q m = let e = rw q at m in (q, e.1)
-    go (Refused r) q m = let e = rw q at m in absurd (omega (arith, refusal_some r, e.0))
+        → ((start_of n).verdict ≡ Ok tt) × (judge ≡ judge_bytes (start_of n).judge ++ drop judge_size lent)
+    go (Ok _) q m = let e = rw q at m in (q, e.1)
+    go (Err r) q m = let e = rw q at m in absurd (omega (arith, refusal_some r, e.0))
 
 pub calls_judge_the_run : CallsJudgeTheRun
 unfolding broken_at
@@ -183,7 +183,7 @@ calls_judge_the_run n lent judge last cs masks call calls =
     }
 
 -- each cycle that the judge takes is a call
-call_of : (j : Judge) (c : Cycle) (rest buffer : List ℕ) → Sound j → mask_size ≤ length buffer → (judge_of j c).verdict ≡ Taken
+call_of : (j : Judge) (c : Cycle) (rest buffer : List ℕ) → Sound j → mask_size ≤ length buffer → (judge_of j c).verdict ≡ Ok tt
     → JudgeStepCall c (judge_bytes j ++ rest) buffer 0 (judge_bytes (judge_of j c).judge ++ rest) (mask_stored (mask_of (judge_of j c).charged) buffer)
 unfolding judge_stored
 call_of j c rest buffer s space v =
@@ -212,7 +212,7 @@ unfolding kept_of
 long_runs_are_judged n k c p h rest buffer few many valid more room space =
     let j : Judge = with_count k (kept_of n (p ∷ h)) in
     let e = exact_at_any_length n k c p h few many valid more room in
-    let v : (judge_of j c).verdict ≡ Taken = ap (λ (a : Judgement). a.verdict) e in
+    let v : (judge_of j c).verdict ≡ (Ok tt) = ap (λ (a : Judgement). a.verdict) e in
     let s = facts_of j (step_taken j c v).sound (list_length 0 16 _) in
     let f : Rule → Bool = λ r. broken n r (c ∷ (p ∷ h)) in (
       mask_stored (mask_of (map f rules)) buffer,

@@ -2,6 +2,7 @@
 --
 --   reported, traced == what the programs write for good lines, and then for the rest
 --   judged_keeps, run_keeps == the judge and the state after them
+use Rattle.std.specs.Prelude.{Ok}
 use Prim.Native.Nat.{ℕ, zero, suc, ◌+◌, ◌≤◌}
 use mathlib.Core.Path.{◌≡◌, refl, sym, ◌∙◌, ap, subst}
 use mathlib.Core.Bool.{false}
@@ -14,8 +15,6 @@ use Rattle.rules.specs.declared.State.{State}
 use Rattle.rules.specs.declared.Inputs.{Inputs}
 use Rattle.rules.specs.declared.Outputs.{Outputs}
 use Rattle.rules.specs.declared.Cycle.{Cycle}
-use Rattle.rules.specs.declared.Answer.TheVariants.{Next}
-use Rattle.rules.specs.declared.Start.TheVariants.{Ready}
 use Rattle.rules.specs.Codes.{most_cycles}
 use Rattle.rules.specs.State.{reset_state, reset_of}
 use Rattle.rules.specs.Phase.{seen}
@@ -31,7 +30,7 @@ use Rattle.rulebook.specs.Promises.{broken_report, broken_count, ValidTrace}
 use Rattle.rulebook.proofs.Answers.{begun}
 use Rattle.rulebook.proofs.Promises.{exact_charges, exact_count, every_valid_trace_is_judged, only_valid_traces_are_judged}
 use Rattle.formats.specs.declared.Word.TheVariants.{Stim, Trace}
-use Rattle.formats.specs.declared.HeaderRead.{HeaderRead}
+use Rattle.formats.specs.Results.{HeaderRead}
 use Rattle.formats.specs.Lines.{stimulus_line, trace_line}
 use Rattle.formats.specs.Headers.{header, read_header_of}
 use Rattle.formats.specs.Files.{lines_of, stimulus_file, trace_file}
@@ -108,7 +107,7 @@ report_is_the_verdict n cs range valid room =
     same k l m b e sum = rw (sum, e)
 
 -- the trace of a run from reset; then comes the rest
-pub traced : (n : ℕ) (s t : State) (xs : List Inputs) (rest last : List ℕ) → reset_of n ≡ Ready s → (r : Run arbiter s xs t)
+pub traced : (n : ℕ) (s t : State) (xs : List Inputs) (rest last : List ℕ) → reset_of n ≡ Ok s → (r : Run arbiter s xs t)
     → arbiter_turn t rest ≡ stops last
     → arbiter_program (stimulus_file n xs ++ rest) ≡ trace_file n (trace_of r) ++ last
 unfolding arbiter_program
@@ -127,7 +126,7 @@ traced n s t xs rest last began r e =
     ∙ sym (append_assoc (header Trace n) (lines_of trace_line (trace_of r)) last)
 
 -- the state after a run from reset
-pub run_keeps : (n : ℕ) (s t : State) (xs : List Inputs) → reset_of n ≡ Ready s → Run arbiter s xs t → Sound n t × (t.count ≡ length xs)
+pub run_keeps : (n : ℕ) (s t : State) (xs : List Inputs) → reset_of n ≡ Ok s → Run arbiter s xs t → Sound n t × (t.count ≡ length xs)
 run_keeps n s t xs began r =
     let b = reset_is n s began in
     let first : s.count ≡ 0 = ap (λ (u : State). u.count) b.is in
@@ -151,7 +150,7 @@ run_of n (x ∷ xs) s f room valid =
     go (moved s x (decide s x) q.0) (shown s (seen s x) (decide s x)) q.1
     (λ s' g fits. run_of n xs s' g fits valid.1)
   where
-    go : (s' : State) (o : Outputs) → step_of s x ≡ Next s' o
+    go : (s' : State) (o : Outputs) → step_of s x ≡ Ok (s', o)
         → ((s' : State) → Sound n s' → s'.count + length xs ≤ most_cycles → (t : State) × Run arbiter s' xs t)
         → (t : State) × Run arbiter s (x ∷ xs) t
     go s' o e later =
@@ -174,7 +173,7 @@ shows_each stop = refl
 shows_each (more e r) = ap suc (shows_each r)
 
 -- the judging program on the trace of a run
-run_reported : (n : ℕ) (s t : State) (xs : List Inputs) → InRange n → reset_of n ≡ Ready s → (r : Run arbiter s xs t)
+run_reported : (n : ℕ) (s t : State) (xs : List Inputs) → InRange n → reset_of n ≡ Ok s → (r : Run arbiter s xs t)
     → (l : List (List Rule)) × Each (Each (λ r. is_guarantee r ≡ false)) l
     × (judge_program (trace_file n (trace_of r)) ≡ report_from 0 l ++ end_line (length xs) (breaches l))
 run_reported n s t xs range began r =

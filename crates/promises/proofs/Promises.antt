@@ -1,14 +1,12 @@
 -- The promises hold of the step of document 01.
+use Rattle.std.specs.Prelude.{Err, None, Ok, Some}
 use Prim.Native.Nat.{ℕ}
 use mathlib.Core.Path.{◌≡◌, refl, sym, ◌∙◌, ap}
 use mathlib.Core.Bool.{Bool, true, false}
 use native.Mathlib.Omega.{arith}
 use lib.Dec.{leb}
-use Rattle.rules.specs.declared.Check.{Check}
-use Rattle.rules.specs.declared.Check.TheVariants.{Good, Bad}
-use Rattle.rules.specs.declared.Found.{Found}
-use Rattle.rules.specs.declared.Found.TheVariants.{At, Nothing}
-use Rattle.rules.specs.declared.Answer.TheVariants.{Refused}
+use Rattle.rules.proofs.Parts.{err_parts}
+use Rattle.rules.specs.Results.{Check, Found}
 use Rattle.rules.specs.Codes.{most_cycles}
 use Rattle.rules.specs.Valid.{inputs_check}
 use Rattle.rules.specs.State.{well_formed}
@@ -32,12 +30,12 @@ hands_back : HandsBack step_of
 unfolding step_of accepted
 hands_back s x r s' e = go (well_formed s) (leb most_cycles s.count) (inputs_check s.n x) (chosen s x (decide s x)) refl refl refl refl e
   where
-    go : (a b : Bool) (c : Check) (f : Found) → well_formed s ≡ a → leb most_cycles s.count ≡ b → inputs_check s.n x ≡ c → chosen s x (decide s x) ≡ f → step_of s x ≡ Refused r s' → s' ≡ s
-    go true false Good (At w) p q k t u = let v = simp (p, q, k, t) at u in cc
-    go true false Good Nothing p q k t u = let v = simp (p, q, k, t) at u in cc
-    go true false (Bad y) f p q k t u = let v = simp (p, q, k) at u in cc
-    go true true c f p q k t u = let v = simp (p, q) at u in cc
-    go false b c f p q k t u = let v = simp p at u in cc
+    go : (a b : Bool) (c : Check) (f : Found) → well_formed s ≡ a → leb most_cycles s.count ≡ b → inputs_check s.n x ≡ c → chosen s x (decide s x) ≡ f → step_of s x ≡ Err (r, s') → s' ≡ s
+    go true false (Ok _) (Some w) p q k t u = let v = simp (p, q, k, t) at u in cc
+    go true false (Ok _) None p q k t u = sym (err_parts (simp (p, q, k, t) at u)).1
+    go true false (Err y) f p q k t u = sym (err_parts (simp (p, q, k) at u)).1
+    go true true c f p q k t u = sym (err_parts (simp (p, q) at u)).1
+    go false b c f p q k t u = sym (err_parts (simp p at u)).1
 
 never_refuses : NeverRefuses step_of
 never_refuses s x w room good =
@@ -48,7 +46,7 @@ follows_the_page : FollowsThePage step_of
 follows_the_page s x s' o e =
     let k = taken s x s' o e in
     let g = next_g s x s' o k in
-    (k.shows, k.chose ∙ ap At (sym g), k.moves ∙ ap (λ (w : ℕ). moved s x (decide s x) w) (sym g))
+    (k.shows, k.chose ∙ ap Some (sym g), k.moves ∙ ap (λ (w : ℕ). moved s x (decide s x) w) (sym g))
 
 stays_well_formed : StaysWellFormed step_of
 stays_well_formed n s h = test_of s (reached_sound h).formed

@@ -3,6 +3,7 @@
 --   trace_laws, stimulus_laws == the laws that one form asks
 --   trace_front, stimulus_front == behind good lines a line is refused as it is at the front of the rest
 --   short_trace, short_stimulus == a line that is cut there is 3
+use Rattle.std.specs.Prelude.{Err, None, Ok, Some}
 use Prim.Native.Nat.{ℕ, ◌<◌}
 use mathlib.Core.Path.{◌≡◌, refl, ◌∙◌, ap, subst}
 use mathlib.Core.Bool.{true}
@@ -13,10 +14,7 @@ use Rattle.rules.specs.declared.Refusal.{Refusal}
 use Rattle.rules.specs.declared.Refusal.TheVariants as refusal
 use Rattle.rules.specs.declared.Inputs.{Inputs}
 use Rattle.rules.specs.declared.Cycle.{Cycle}
-use Rattle.formats.specs.declared.StimulusRead.{StimulusRead}
-use Rattle.formats.specs.declared.StimulusRead.TheVariants as stimulus
-use Rattle.formats.specs.declared.TraceRead.{TraceRead}
-use Rattle.formats.specs.declared.TraceRead.TheVariants as trace
+use Rattle.formats.specs.Results.{StimulusRead, TraceRead}
 use Rattle.formats.specs.Answers.{stimulus_ends, trace_ends}
 use Rattle.formats.specs.Lines.{read_stimulus_of, read_trace_of}
 use Rattle.formats.specs.Files.{trace_file, stimulus_file, Line, one, no_more, refused, as_stimulus, as_trace}
@@ -29,25 +27,25 @@ use Rattle.promises.specs.AnyInput.{traces, stimuli, Stops}
 use Rattle.promises.proofs.Forms.{Laws}
 
 -- what a reader answered, from what it found
-trace_line_lem : (r : TraceRead) (c : Cycle) (next : ℕ) → as_trace r ≡ one c next → r ≡ trace.Line c next
-trace_line_lem (trace.Line d k) c next e = cc
-trace_line_lem trace.NoMore c next e = let z : ◌≡◌ {A = ℕ} 0 1 = cc in absurd (omega arith)
-trace_line_lem (trace.Refused r) c next e = let z : ◌≡◌ {A = ℕ} 0 1 = cc in absurd (omega arith)
+trace_line_lem : (r : TraceRead) (c : Cycle) (next : ℕ) → as_trace r ≡ one c next → r ≡ Ok (Some (c, next))
+trace_line_lem (Ok (Some (d, k))) c next e = cc
+trace_line_lem (Ok None) c next e = let z : ◌≡◌ {A = ℕ} 0 1 = cc in absurd (omega arith)
+trace_line_lem (Err r) c next e = let z : ◌≡◌ {A = ℕ} 0 1 = cc in absurd (omega arith)
 
 trace_none : (r : TraceRead) → as_trace r ≡ no_more → trace_ends r ≡ true
-trace_none (trace.Line d k) e = let z : ◌≡◌ {A = ℕ} 0 1 = cc in absurd (omega arith)
-trace_none trace.NoMore e = refl
-trace_none (trace.Refused r) e = let z : ◌≡◌ {A = ℕ} 0 1 = cc in absurd (omega arith)
+trace_none (Ok (Some (d, k))) e = let z : ◌≡◌ {A = ℕ} 0 1 = cc in absurd (omega arith)
+trace_none (Ok None) e = refl
+trace_none (Err r) e = let z : ◌≡◌ {A = ℕ} 0 1 = cc in absurd (omega arith)
 
-stimulus_line_lem : (r : StimulusRead) (x : Inputs) (next : ℕ) → as_stimulus r ≡ one x next → r ≡ stimulus.Line x next
-stimulus_line_lem (stimulus.Line d k) c next e = cc
-stimulus_line_lem stimulus.NoMore c next e = let z : ◌≡◌ {A = ℕ} 0 1 = cc in absurd (omega arith)
-stimulus_line_lem (stimulus.Refused r) c next e = let z : ◌≡◌ {A = ℕ} 0 1 = cc in absurd (omega arith)
+stimulus_line_lem : (r : StimulusRead) (x : Inputs) (next : ℕ) → as_stimulus r ≡ one x next → r ≡ Ok (Some (x, next))
+stimulus_line_lem (Ok (Some (d, k))) c next e = cc
+stimulus_line_lem (Ok None) c next e = let z : ◌≡◌ {A = ℕ} 0 1 = cc in absurd (omega arith)
+stimulus_line_lem (Err r) c next e = let z : ◌≡◌ {A = ℕ} 0 1 = cc in absurd (omega arith)
 
 stimulus_none : (r : StimulusRead) → as_stimulus r ≡ no_more → stimulus_ends r ≡ true
-stimulus_none (stimulus.Line d k) e = let z : ◌≡◌ {A = ℕ} 0 1 = cc in absurd (omega arith)
-stimulus_none stimulus.NoMore e = refl
-stimulus_none (stimulus.Refused r) e = let z : ◌≡◌ {A = ℕ} 0 1 = cc in absurd (omega arith)
+stimulus_none (Ok (Some (d, k))) e = let z : ◌≡◌ {A = ℕ} 0 1 = cc in absurd (omega arith)
+stimulus_none (Ok None) e = refl
+stimulus_none (Err r) e = let z : ◌≡◌ {A = ℕ} 0 1 = cc in absurd (omega arith)
 
 pub trace_laws : Laws traces
 trace_laws =

@@ -2,6 +2,7 @@
 --
 --   form_same      == another count leaves a state well formed or not, as it was
 --   step_same, recounted == one step with another count
+use Rattle.std.specs.Prelude.{Err, None, Ok, Some}
 use Prim.Native.Nat.{ℕ, ◌+◌, ◌≤◌, ◌<◌}
 use mathlib.Core.Path.{◌≡◌, refl, sym, ◌∙◌, ap, ap₂}
 use mathlib.Core.Bool.{Bool, true, false}
@@ -9,16 +10,11 @@ use mathlib.Core.List.{[], ◌∷◌}
 use native.Mathlib.Omega.{arith}
 use borrow.Author.Tests.{le-leb, lt-leb}
 use lib.ListN.{length}
-use Rattle.rules.specs.declared.Check.{Check}
-use Rattle.rules.specs.declared.Check.TheVariants.{Good, Bad}
-use Rattle.rules.specs.declared.Found.{Found}
-use Rattle.rules.specs.declared.Found.TheVariants.{At, Nothing}
+use Rattle.rules.specs.Results.{Check, Found, Answer}
 use Rattle.rules.specs.declared.State.{State}
 use Rattle.rules.specs.declared.Inputs.{Inputs}
 use Rattle.rules.specs.declared.Outputs.{Outputs}
 use Rattle.rules.specs.declared.Cycle.{Cycle}
-use Rattle.rules.specs.declared.Answer.{Answer}
-use Rattle.rules.specs.declared.Answer.TheVariants.{Next, Refused}
 use Rattle.rules.specs.Codes.{most_cycles}
 use Rattle.rules.specs.Valid.{inputs_check}
 use Rattle.rules.specs.State.{well_formed}
@@ -39,13 +35,13 @@ module _ (s : State) (k : ℕ) where
   module _ (x : Inputs) where
     answered_same : (f : Found) (d : Bool) → Alike (answered f d (with_count k s) x) (answered f d s x)
     unfolding moved owner_after lock_after granted_after phase_after shown seen
-    answered_same Nothing d = (refl, refl)
-    answered_same (At w) d = (refl, refl)
+    answered_same None d = (refl, refl)
+    answered_same (Some w) d = (refl, refl)
 
     checked_same : (c : Check) → Alike (checked c (with_count k s) x) (checked c s x)
     unfolding accepted chosen decides opens_later phase_after seen
-    checked_same Good = answered_same (chosen s x (decides s (seen s x))) (decides s (seen s x))
-    checked_same (Bad r) = (refl, refl)
+    checked_same (Ok _) = answered_same (chosen s x (decides s (seen s x))) (decides s (seen s x))
+    checked_same (Err r) = (refl, refl)
 
     step_same : s.count < most_cycles → k < most_cycles → Alike (step_of (with_count k s) x) (step_of s x)
     unfolding step_of
@@ -72,29 +68,29 @@ runs_alike s s' t [] stop same few = (t, stop, refl, same)
 runs_alike s s' t (x ∷ xs) (more {s' = u} {o = o} e r) same few =
     go (step_of t x) refl (rw e at (count_only_counts s t x same (taken s x u o e).room (omega arith))) (λ v. runs_alike u s' v xs r)
   where
-    go : (a : Answer) → step_of t x ≡ a → Alike (Next u o) (step_of t x)
+    go : (a : Answer) → step_of t x ≡ a → Alike (Ok (u, o)) (step_of t x)
         → ((v : State) → DifferInCount u v → v.count + length xs ≤ most_cycles
         → (t' : State) × (q : Run arbiter v xs t') × (trace_of q ≡ trace_of r) × DifferInCount s' t')
         → (t' : State) × (q : Run arbiter t (x ∷ xs) t') × (trace_of q ≡ trace_of (more {s = s} e r)) × DifferInCount s' t'
-    go (Next v p) f alike later =
+    go (Ok (v, p)) f alike later =
         let l = rw f at alike in
         let q = later v l.1 (omega (arith, next_count t x v p (taken t x v p f))) in
         let cycle : ◌≡◌ {A = Cycle} (record { inputs = x; outputs = p }) (record { inputs = x; outputs = o }) =
         ap (λ (y : Outputs). record { inputs = x; outputs = y }) (sym l.0) in
         (q.0, more f q.1, ap₂ ◌∷◌ cycle q.2, q.3)
-    go (Refused q v) f alike later = absurd (rw f at alike)
+    go (Err (q, v)) f alike later = absurd (rw f at alike)
 
 -- the step itself, with another count
-recounted : (s t : State) (x : Inputs) (o : Outputs) (k : ℕ) → step_of s x ≡ Next t o → k < most_cycles → step_of (with_count k s) x ≡ Next (with_count (k + 1) t) o
+recounted : (s t : State) (x : Inputs) (o : Outputs) (k : ℕ) → step_of s x ≡ Ok (t, o) → k < most_cycles → step_of (with_count k s) x ≡ Ok (with_count (k + 1) t, o)
 recounted s t x o k e room = go (step_of (with_count k s) x) refl
   where
-    go : (a : Answer) → step_of (with_count k s) x ≡ a → step_of (with_count k s) x ≡ Next (with_count (k + 1) t) o
-    go (Next u p) f =
+    go : (a : Answer) → step_of (with_count k s) x ≡ a → step_of (with_count k s) x ≡ Ok (with_count (k + 1) t, o)
+    go (Ok (u, p)) f =
         let l = rw (f, e) at (step_same s k x (taken s x t o e).room room) in
         let c : u.count ≡ k + 1 = next_count (with_count k s) x u p (taken (with_count k s) x u p f) in
         let same : u ≡ with_count (k + 1) t = ap (with_count u.count) l.1 ∙ ap (λ (i : ℕ). with_count i t) c in
-        f ∙ ap (λ (v : State). Next v p) same ∙ ap (λ (y : Outputs). Next (with_count (k + 1) t) y) l.0
-    go (Refused q u) f = absurd (rw (f, e) at (step_same s k x (taken s x t o e).room room))
+        f ∙ ap (λ (v : State). Ok (v, p)) same ∙ ap (λ (y : Outputs). Ok (with_count (k + 1) t, y)) l.0
+    go (Err (q, u)) f = absurd (rw (f, e) at (step_same s k x (taken s x t o e).room room))
 
 pub long_runs_are_shown : LongRunsAreShown
 long_runs_are_shown d s t x o k rest buffer e room space =

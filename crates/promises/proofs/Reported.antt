@@ -4,6 +4,7 @@
 --   trace_turn, end_turn == one line, and the end of the input
 --   judged_lines  == all the lines that are left, and then what the rest comes to
 --   judging_keeps == the masters stay, and the cycles are counted
+use Rattle.std.specs.Prelude.{None, Ok, Some}
 use Prim.Native.Nat.{ℕ, zero, suc, ◌+◌, ◌<◌}
 use mathlib.Core.Path.{◌≡◌, refl, sym, ◌∙◌, ap, subst}
 use mathlib.Core.List.{List, [], ◌∷◌, ◌++◌, append_assoc}
@@ -13,13 +14,11 @@ use lib.ListN.{length}
 use Rattle.rules.specs.declared.Cycle.{Cycle}
 use Rattle.rulebook.specs.declared.Rule.{Rule}
 use Rattle.rulebook.specs.declared.Judge.{Judge}
-use Rattle.rulebook.specs.declared.Verdict.{Verdict}
-use Rattle.rulebook.specs.declared.Verdict.TheVariants.{Taken}
+use Rattle.rulebook.specs.Results.{Verdict}
 use Rattle.rulebook.specs.Charges.{next_judge}
 use Rattle.rulebook.specs.Step.{judge_of, charged_rules, Judging, ends, takes, charges_in, breaches}
 use Rattle.rulebook.proofs.Answers.{taken, next_judge_lem}
-use Rattle.formats.specs.declared.TraceRead.{TraceRead}
-use Rattle.formats.specs.declared.TraceRead.TheVariants as trace
+use Rattle.formats.specs.Results.{TraceRead}
 use Rattle.formats.specs.Lines.{trace_line, read_trace_of}
 use Rattle.formats.specs.Files.{lines_of}
 use Rattle.formats.specs.Report.{end_line}
@@ -56,7 +55,7 @@ tally_of j b = record { judge = j; breaches = b }
 
 module _ (n : ℕ) (range : InRange n) where
   -- the cycle is read back, and taken
-  trace_turn : (j : Judge) (b : ℕ) (c : Cycle) (rest : List ℕ) → j.n ≡ n → ValidCycle n c → (judge_of j c).verdict ≡ Taken
+  trace_turn : (j : Judge) (b : ℕ) (c : Cycle) (rest : List ℕ) → j.n ≡ n → ValidCycle n c → (judge_of j c).verdict ≡ Ok tt
       → judge_turn (tally_of j b) (trace_line c ++ rest)
       ≡ goes (breach_lines j.count (charged_rules (judge_of j c)))
       (tally_of (judge_of j c).judge (b + length (charged_rules (judge_of j c))))
@@ -64,14 +63,14 @@ module _ (n : ℕ) (range : InRange n) where
   unfolding judge_turn
   trace_turn j b c rest same valid took =
       ap (λ (r : TraceRead). traced r (tally_of j b))
-      (subst (λ (m : ℕ). read_trace_of m (trace_line c ++ rest) 0 ≡ trace.Line c 31) (sym same) (written_trace_line_reads n c [] rest range valid))
+      (subst (λ (m : ℕ). read_trace_of m (trace_line c ++ rest) 0 ≡ Ok (Some (c, 31))) (sym same) (written_trace_line_reads n c [] rest range valid))
       ∙ ap (λ (v : Verdict). judged_to v (judge_of j c) (tally_of j b) 31) took
 
   pub end_turn : (j : Judge) (b : ℕ) → j.n ≡ n → judge_turn (tally_of j b) [] ≡ stops (end_line j.count b)
   unfolding judge_turn
   end_turn j b same =
       ap (λ (r : TraceRead). traced r (tally_of j b))
-      (subst (λ (m : ℕ). read_trace_of m [] 0 ≡ trace.NoMore) (sym same) (no_more_at_the_end.trace_line_lem n [] range))
+      (subst (λ (m : ℕ). read_trace_of m [] 0 ≡ Ok None) (sym same) (no_more_at_the_end.trace_line_lem n [] range))
 
   -- from a judge that has taken some cycles, with b breaches so far, and takes the cycles cs that are left; then comes the rest
   pub judged_lines : {j end : Judge} {cs : List Cycle} (d : Judging j cs end) (k b : ℕ) (rest last : List ℕ) → j.n ≡ n → Each (ValidCycle n) cs → length cs < k

@@ -3,10 +3,10 @@
 --   turns_of s i == how many decisions master i can still lose in the state s
 --   loss_nearer  == a decision that a requesting master loses brings its turn nearer
 --   served       == all the laws together
+use Rattle.std.specs.Prelude.{Some}
 use Prim.Native.Nat.{ℕ, ◌<◌}
 use mathlib.Core.Path.{◌≡◌, refl, sym, ◌∙◌, ap}
 use mathlib.Core.Bool.{Bool, true, false, ◌&&◌, cond, true≢false, false≢true}
-use Rattle.rules.specs.declared.Found.TheVariants.{At}
 use Rattle.rules.specs.declared.State.{State}
 use Rattle.rules.specs.declared.Inputs.{Inputs}
 use Rattle.rules.specs.declared.Outputs.{Outputs}
@@ -36,8 +36,8 @@ module _ (s : State) (x : Inputs) (s' : State) (o : Outputs) (k : Taken s x s' o
   pub grant_kept : decide s x ≡ false → s'.g ≡ s.g
   grant_kept d = next_g s x s' o k ∙ chosen_kept s x k.w (rw d at k.chose)
 
-  pub grant_won : decide s x ≡ true → some_high x.hbusreq ≡ true → winner s.n s.g x.hbusreq ≡ At s'.g
-  grant_won d some = chosen_won s x k.w some (rw d at k.chose) ∙ ap At (sym (next_g s x s' o k))
+  pub grant_won : decide s x ≡ true → some_high x.hbusreq ≡ true → winner s.n s.g x.hbusreq ≡ Some s'.g
+  grant_won d some = chosen_won s x k.w some (rw d at k.chose) ∙ ap Some (sym (next_g s x s' o k))
 
   pub loss_nearer : decide s x ≡ true → (i : ℕ) → i < s.n → high x.hbusreq i ≡ true → (s'.g ≡ i → ⊥) → turns_of s' i < turns_of s i
   loss_nearer d i hi asks ne =

@@ -4,6 +4,7 @@
 --   stepped      == a call that answered 0 took a step of the state whose bytes it was lent
 --   run_of_calls == calls from the bytes of a well-formed state are a run from it
 --   calls_of     == and every list of valid inputs has such calls
+use Rattle.std.specs.Prelude.{Err, Ok, Some}
 use Prim.Native.Nat.{ℕ, ◌≤◌}
 use mathlib.Core.Path.{◌≡◌, refl, sym, ◌∙◌, ap, ap₂, subst}
 use mathlib.Core.Bool.{Bool, true, false}
@@ -16,10 +17,7 @@ use Rattle.rules.specs.declared.State.{State}
 use Rattle.rules.specs.declared.Inputs.{Inputs}
 use Rattle.rules.specs.declared.Outputs.{Outputs}
 use Rattle.rules.specs.declared.Cycle.{Cycle}
-use Rattle.rules.specs.declared.Answer.{Answer}
-use Rattle.rules.specs.declared.Answer.TheVariants as answer
-use Rattle.rules.specs.declared.Start.{Start}
-use Rattle.rules.specs.declared.Start.TheVariants.{Ready, Refused as Unready}
+use Rattle.rules.specs.Results.{Answer, Start}
 use Rattle.rules.specs.Refusals.{reset_answer}
 use Rattle.rules.specs.State.{reset_state, reset_of, WellFormed}
 use Rattle.rules.specs.Step.{step_of}
@@ -27,9 +25,7 @@ use Rattle.rules.proofs.WellFormed.{reset_is, reset_sound}
 use Rattle.rules.proofs.Taken.{taken as step_taken}
 use Rattle.rules.proofs.Kept.{kept}
 use Rattle.formats.proofs.Report.{refusal_some}
-use Rattle.hosting.specs.declared.Lent.TheVariants.{Known}
-use Rattle.hosting.specs.declared.Outcome.{Outcome}
-use Rattle.hosting.specs.declared.Outcome.TheVariants.{Taken, Refused}
+use Rattle.hosting.specs.Results.{Outcome}
 use Rattle.hosting.specs.Bytes.{state_size, state_bytes, bytes_state}
 use Rattle.hosting.specs.Calls.{Display, output_bytes, of_answer, of_lent, host_step, host_number, state_stored, cycle_stored, host_state, host_shown, host_reset, host_start, StepCall, ResetCall}
 use Rattle.hosting.proofs.Bytes.{state_bytes_lem, state_again}
@@ -46,17 +42,17 @@ rest_of s rest w = subst (λ (k : ℕ). drop k (state_bytes s ++ rest) ≡ rest)
 record Stepped (d : Display) (s : State) (x : Inputs) (rest line state' line' : List ℕ) : Type 0 where
   next : State
   shown : Outputs
-  steps : step_of s x ≡ answer.Next next shown
+  steps : step_of s x ≡ Ok (next, shown)
   sound : WellFormed next
   bytes : state' ≡ state_bytes next ++ rest
   writes : line' ≡ d.bytes (record { inputs = x; outputs = shown }) ++ drop d.size line
 
 -- a call that was taken had buffers that are long enough
-long_enough : (d : Display) (state line : List ℕ) (x : Inputs) (t : State) (c : Cycle) → host_step d state line x ≡ Taken t c → of_lent (bytes_state state) x ≡ Taken t c
+long_enough : (d : Display) (state line : List ℕ) (x : Inputs) (t : State) (c : Cycle) → host_step d state line x ≡ Ok (t, c) → of_lent (bytes_state state) x ≡ Ok (t, c)
 unfolding host_step
 long_enough d state line x t c e = go (ltb (length state) state_size) (ltb (length line) d.size) refl refl
   where
-    go : (a b : Bool) → ltb (length state) state_size ≡ a → ltb (length line) d.size ≡ b → of_lent (bytes_state state) x ≡ Taken t c
+    go : (a b : Bool) → ltb (length state) state_size ≡ a → ltb (length line) d.size ≡ b → of_lent (bytes_state state) x ≡ Ok (t, c)
     go true b p q = let f = simp p at e in let z : ◌≡◌ {A = ℕ} 0 1 = cc in absurd (omega arith)
     go false true p q = let f = simp (p, q) at e in let z : ◌≡◌ {A = ℕ} 0 1 = cc in absurd (omega arith)
     go false false p q = simp (p, q) at e
@@ -67,10 +63,10 @@ unfolding state_stored cycle_stored
 stepped d s x rest state line state' line' w at call = go (host_step d state line x) refl
   where
     go : (o : Outcome) → host_step d state line x ≡ o → Stepped d s x rest line state' line'
-    go (Refused r) e = absurd (omega (arith, refusal_some r, call.0 ∙ ap host_number e))
-    go (Taken t c) e =
+    go (Err r) e = absurd (omega (arith, refusal_some r, call.0 ∙ ap host_number e))
+    go (Ok (t, c)) e =
         let f = follows (bytes_state state) x t c (long_enough d state line x t c e) in
-        let known : bytes_state state ≡ Known s = rw at (state_again s rest w) in
+        let known : bytes_state state ≡ Some s = rw at (state_again s rest w) in
         let k = f.known in
         let same : f.from ≡ s = cc in
         let cycle : c ≡ record { inputs = x; outputs = c.outputs } = ap (λ (i : Inputs). record { inputs = i; outputs = c.outputs }) f.driven in
@@ -116,14 +112,14 @@ run_of_calls d exact (refused {state = state} {state' = state'} x line line' num
     run_of_calls d exact more_calls s rest w ((refused_calls_keep d x state line state' line' number some call).0 ∙ at)
 
 -- a reset that answered 0
-reset_ready : (n : ℕ) (lent state : List ℕ) → ResetCall n lent 0 state → (s : State) × (reset_of n ≡ Ready s) × (state ≡ state_bytes s ++ drop state_size lent)
+reset_ready : (n : ℕ) (lent state : List ℕ) → ResetCall n lent 0 state → (s : State) × (reset_of n ≡ Ok s) × (state ≡ state_bytes s ++ drop state_size lent)
 unfolding host_reset state_stored
 reset_ready n lent state call = go (ltb (length lent) state_size) (reset_of n) refl refl
   where
-    go : (b : Bool) (a : Start) → ltb (length lent) state_size ≡ b → reset_of n ≡ a → (s : State) × (reset_of n ≡ Ready s) × (state ≡ state_bytes s ++ drop state_size lent)
+    go : (b : Bool) (a : Start) → ltb (length lent) state_size ≡ b → reset_of n ≡ a → (s : State) × (reset_of n ≡ Ok s) × (state ≡ state_bytes s ++ drop state_size lent)
     go true a p q = let e = simp p at call.0 in absurd (omega arith)
-    go false (Ready s) p q = (s, q, call.1 ∙ simp (p, q))
-    go false (Unready r) p q = let e = simp (p, q) at call.0 in absurd (omega (arith, refusal_some r))
+    go false (Ok s) p q = (s, q, call.1 ∙ simp (p, q))
+    go false (Err r) p q = let e = simp (p, q) at call.0 in absurd (omega (arith, refusal_some r))
 
 pub calls_are_a_run : CallsAreARun
 calls_are_a_run d exact n lent state last xs lines call calls =
@@ -145,12 +141,12 @@ bytes_room : (s : State) (rest : List ℕ) → WellFormed s → state_size ≤ l
 bytes_room s rest w = omega (arith, length-append (state_bytes s) rest, (state_bytes_lem s w).0)
 
 -- each step of a run is a call
-pub call_of : (d : Display) (s s' : State) (x : Inputs) (o : Outputs) (rest line : List ℕ) → WellFormed s → d.size ≤ length line → step_of s x ≡ answer.Next s' o
+pub call_of : (d : Display) (s s' : State) (x : Inputs) (o : Outputs) (rest line : List ℕ) → WellFormed s → d.size ≤ length line → step_of s x ≡ Ok (s', o)
     → StepCall d x (state_bytes s ++ rest) line 0 (state_bytes s' ++ rest) (cycle_stored d (record { inputs = x; outputs = o }) line)
 unfolding state_stored
 call_of d s s' x o rest line w space e =
     let state : List ℕ = state_bytes s ++ rest in
-    let is : host_step d state line x ≡ Taken s' (record { inputs = x; outputs = o }) =
+    let is : host_step d state line x ≡ Ok (s', record { inputs = x; outputs = o }) =
     plain_step d state line x (bytes_room s rest w) space s (state_again s rest w) ∙ ap (λ (a : Answer). of_answer a x) e in
     let kept_rest : state_bytes s' ++ drop state_size state ≡ state_bytes s' ++ rest = ap (λ (l : List ℕ). state_bytes s' ++ l) (rest_of s rest w) in
     (sym (ap host_number is), sym (ap (λ (a : Outcome). host_state a state) is ∙ kept_rest), sym (ap (λ (a : Outcome). host_shown d a line) is))

@@ -4,6 +4,7 @@
 --   end_turn      == the end of the input
 --   run_lines     == all the lines that are left, and then what the rest comes to
 --   run_count     == the cycles are counted
+use Rattle.std.specs.Prelude.{Ok}
 use Prim.Native.Nat.{ℕ, zero, suc, ◌+◌, ◌<◌}
 use mathlib.Core.Path.{◌≡◌, sym, ◌∙◌, ap, subst}
 use mathlib.Core.List.{List, [], ◌++◌, append_assoc}
@@ -13,11 +14,10 @@ use lib.ListN.{length}
 use Rattle.rules.specs.declared.State.{State}
 use Rattle.rules.specs.declared.Inputs.{Inputs}
 use Rattle.rules.specs.declared.Outputs.{Outputs}
-use Rattle.rules.specs.declared.Answer.{Answer}
-use Rattle.rules.specs.declared.Answer.TheVariants.{Next}
+use Rattle.rules.specs.Results.{Answer}
 use Rattle.rules.specs.Step.{step_of}
 use Rattle.rules.proofs.Taken.{taken, next_n, next_count}
-use Rattle.formats.specs.declared.StimulusRead.{StimulusRead}
+use Rattle.formats.specs.Results.{StimulusRead}
 use Rattle.formats.specs.Lines.{stimulus_line, trace_line}
 use Rattle.formats.specs.Files.{lines_of}
 use Rattle.formats.specs.Promises.{InRange}
@@ -29,7 +29,7 @@ use Rattle.promises.specs.Runs.{Run, stop, more, trace_of}
 use Rattle.promises.proofs.Lines.{one_line}
 
 -- the inputs are read back, and taken
-stimulus_turn : (s : State) (x : Inputs) (s' : State) (o : Outputs) (rest : List ℕ) → InRange s.n → step_of s x ≡ Next s' o
+stimulus_turn : (s : State) (x : Inputs) (s' : State) (o : Outputs) (rest : List ℕ) → InRange s.n → step_of s x ≡ Ok (s', o)
     → arbiter_turn s (stimulus_line x ++ rest) ≡ goes (trace_line (record { inputs = x; outputs = o })) s' (length (stimulus_line x))
 unfolding arbiter_turn
 stimulus_turn s x s' o rest range e =

@@ -2,6 +2,7 @@
 --
 --   drawn_stops, recalled_stops == the turn at a line and at a step that is refused
 --   plain_lines, header_lines == no line ends in plain bytes, and a dump's header has sixteen
+use Rattle.std.specs.Prelude.{Err, None, Ok, Some}
 use Prim.Native.Nat.{ℕ, suc, ◌+◌}
 use mathlib.Core.Path.{◌≡◌, refl, sym, ◌∙◌, ap}
 use mathlib.Core.Logic.{inl}
@@ -13,8 +14,7 @@ use lib.Seq.{drop-append_seam}
 use Rattle.rules.specs.declared.Refusal.{Refusal}
 use Rattle.rules.specs.declared.Cycle.{Cycle}
 use Rattle.rules.specs.Codes.{most_cycles}
-use Rattle.formats.specs.declared.TraceRead.{TraceRead}
-use Rattle.formats.specs.declared.TraceRead.TheVariants.{Line, NoMore, Refused}
+use Rattle.formats.specs.Results.{TraceRead}
 use Rattle.formats.specs.Digits.{lf, decimal_before, decimal}
 use Rattle.formats.specs.Lines.{read_trace_of}
 use Rattle.formats.specs.Files.{as_trace, trace_file}
@@ -44,9 +44,9 @@ unfolding dump_turn
 drawn_stops n k line prev r rest = go (read_trace_of n rest 0)
   where
     go : (a : TraceRead) → Stops (as_trace a) k r → drawn a (standing n k prev line) ≡ stops (refused_line line r)
-    go (Line c next) h = rw (le-leb most_cycles k (omega (arith, h.0)), h.1)
-    go NoMore h = absurd h
-    go (Refused q) h = rw h
+    go (Ok (Some (c, next))) h = rw (le-leb most_cycles k (omega (arith, h.0)), h.1)
+    go (Ok None) h = absurd h
+    go (Err q) h = rw h
 
 pub dumps_any_trace : DumpsAnyTrace
 dumps_any_trace s (no_header r) h = unfold dump_program in rw h
@@ -85,17 +85,17 @@ unfolding dump
 next_line n cs = omega (arith, lines_append (dump_header n) (steps_of no_cycle 0 cs), header_lines n)
 
 -- what is refused behind other bytes is refused
-moved_refused : (p : ℕ) (a : TraceRead) (r : Refusal) → moved p a ≡ Refused r → a ≡ Refused r
-moved_refused p (Line c next) r e = let z : ◌≡◌ {A = ℕ} 0 1 = cc in absurd (omega arith)
-moved_refused p NoMore r e = let z : ◌≡◌ {A = ℕ} 0 1 = cc in absurd (omega arith)
-moved_refused p (Refused q) r e = e
+moved_refused : (p : ℕ) (a : TraceRead) (r : Refusal) → moved p a ≡ Err r → a ≡ Err r
+moved_refused p (Ok (Some (c, next))) r e = let z : ◌≡◌ {A = ℕ} 0 1 = cc in absurd (omega arith)
+moved_refused p (Ok None) r e = let z : ◌≡◌ {A = ℕ} 0 1 = cc in absurd (omega arith)
+moved_refused p (Err q) r e = e
 
-recalled_stops : (n t line : ℕ) (prev : Cycle) (r : Refusal) (pre rest : List ℕ) → read_step_of n t prev (pre ++ rest) (length pre) ≡ Refused r
+recalled_stops : (n t line : ℕ) (prev : Cycle) (r : Refusal) (pre rest : List ℕ) → read_step_of n t prev (pre ++ rest) (length pre) ≡ Err r
     → undump_turn (standing n t prev line) rest ≡ stops (refused_line line r)
 unfolding undump_turn
 recalled_stops n t line prev r pre rest e =
     let size = length-append pre rest in
-    let there : read_step_of n t prev rest 0 ≡ Refused r =
+    let there : read_step_of n t prev rest 0 ≡ Err r =
     moved_refused (length pre) (read_step_of n t prev rest 0) r
     (ap (λ (l : List ℕ). moved (length pre) (read_step_of n t prev l 0)) (sym (drop-append_seam pre rest))
     ∙ sym (near_shift n t prev (pre ++ rest) (length pre) (omega arith))

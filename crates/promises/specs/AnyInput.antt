@@ -15,15 +15,13 @@
 --   report_on f      == what the judging program writes for an input of that form
 --   TraceAnd n xs last out == out is the trace of the run from reset over the inputs xs, and then the bytes last
 --   Arbitrated f out == out is what the arbiter program writes for an input of that form
-use Rattle.std.specs.Prelude.{ℕ, ◌+◌, ◌≤◌, ◌<◌, ◌≡◌, ◌⊎◌, List, [], ◌++◌, length}
+use Rattle.std.specs.Prelude.{ℕ, ◌+◌, ◌≤◌, ◌<◌, ◌≡◌, ◌⊎◌, List, [], ◌++◌, length, Err, Ok}
 use Rattle.rules.specs.declared.Refusal.{Refusal}
 use Rattle.rules.specs.declared.Refusal.TheVariants as refusal
-use Rattle.rules.specs.declared.Check.{Check}
-use Rattle.rules.specs.declared.Check.TheVariants.{Good}
+use Rattle.rules.specs.Results.{Check}
 use Rattle.rules.specs.declared.State.{State}
 use Rattle.rules.specs.declared.Inputs.{Inputs}
 use Rattle.rules.specs.declared.Cycle.{Cycle}
-use Rattle.rules.specs.declared.Start.TheVariants.{Ready}
 use Rattle.rules.specs.Refusals.{number_of}
 use Rattle.rules.specs.Codes.{most_cycles}
 use Rattle.rules.specs.Valid.{inputs_check, cycle_check}
@@ -31,7 +29,6 @@ use Rattle.rules.specs.State.{reset_of}
 use Rattle.rulebook.specs.Promises.{broken_report, broken_count}
 use Rattle.formats.specs.declared.Word.{Word}
 use Rattle.formats.specs.declared.Word.TheVariants.{Stim, Trace}
-use Rattle.formats.specs.declared.HeaderRead.TheVariants as head
 use Rattle.formats.specs.Lines.{stimulus_line, trace_line, read_stimulus_of, read_trace_of}
 use Rattle.formats.specs.Headers.{header, read_header_of}
 use Rattle.formats.specs.Files.{lines_of, trace_file, stimulus_file, Line, one, no_more, refused, as_stimulus, as_trace}
@@ -75,12 +72,12 @@ module _ {A : Type 0} (K : Kind A) where
 
   pub record Begins (s : List ℕ) (n : ℕ) (l : List A) (rest : List ℕ) : Type 0 where
     pub masters : InRange n
-    pub good : Each (λ a. K.check n a ≡ Good) l
+    pub good : Each (λ a. K.check n a ≡ Ok tt) l
     pub room : length l ≤ most_cycles
     pub bytes : s ≡ file_for n l ++ rest
 
   abbrev pub Has : List ℕ → Form A → Type 0
-  Has s (no_header r) = read_header_of K.word s ≡ head.Refused r
+  Has s (no_header r) = read_header_of K.word s ≡ Err r
   Has s (cut_after n l r) =
       (rest : List ℕ) × Begins s n l rest × Stops (K.read n s (length (file_for n l))) (length l) r
   Has s (whole n l) = Begins s n l []
@@ -115,7 +112,7 @@ JudgesAnyInput = (s : List ℕ) (f : Form Cycle) → Has traces s f → judge_pr
 pub record TraceAnd (n : ℕ) (xs : List Inputs) (last out : List ℕ) : Type 0 where
   pub first : State
   pub end : State
-  pub began : reset_of n ≡ Ready first
+  pub began : reset_of n ≡ Ok first
   pub run : Run arbiter first xs end
   pub writes : out ≡ trace_file n (trace_of run) ++ last
 

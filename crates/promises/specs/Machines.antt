@@ -5,12 +5,11 @@
 --   arbiter, the_step == the arbiter of document 01, and its step
 --   decision s x      == DECIDE in the state s with the inputs x
 --   InTurn M          == the laws of an arbiter that serves its masters in turn: all that the bounds ask of it
-use Rattle.std.specs.Prelude.{ℕ, ◌<◌, ◌≡◌, Bool, true, false, ◌&&◌, cond}
+use Rattle.std.specs.Prelude.{ℕ, ◌<◌, ◌≡◌, Bool, true, false, ◌&&◌, cond, Ok}
 use Rattle.rules.specs.declared.State.{State}
 use Rattle.rules.specs.declared.Inputs.{Inputs}
 use Rattle.rules.specs.declared.Outputs.{Outputs}
-use Rattle.rules.specs.declared.Answer.{Answer}
-use Rattle.rules.specs.declared.Answer.TheVariants.{Next}
+use Rattle.rules.specs.Results.{Answer}
 use Rattle.rules.specs.Codes.{ready}
 use Rattle.rules.specs.Masks.{high, some_high}
 use Rattle.rules.specs.Phase.{seen, decides}
@@ -29,7 +28,7 @@ machine_of step =
     record {
       Place = State;
       state = λ s. s;
-      Step = λ s x s' o. step s x ≡ Next s' o;
+      Step = λ s x s' o. step s x ≡ Ok (s', o);
     }
 
 abbrev pub arbiter : Machine

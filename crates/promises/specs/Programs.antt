@@ -4,11 +4,10 @@
 --
 --   lines_at t rs   == the breach lines of cycle t, for the rules rs
 --   report_from t l == the breach lines of a report: l has the rules of cycle t, those of the next cycle, and so on
-use Rattle.std.specs.Prelude.{ℕ, ◌+◌, ◌≤◌, ◌≡◌, false, List, [], ◌∷◌, ◌++◌, length}
+use Rattle.std.specs.Prelude.{ℕ, ◌+◌, ◌≤◌, ◌≡◌, false, List, [], ◌∷◌, ◌++◌, length, Ok}
 use Rattle.rules.specs.declared.State.{State}
 use Rattle.rules.specs.declared.Inputs.{Inputs}
 use Rattle.rules.specs.declared.Cycle.{Cycle}
-use Rattle.rules.specs.declared.Start.TheVariants.{Ready}
 use Rattle.rules.specs.Codes.{most_cycles}
 use Rattle.rules.specs.State.{reset_of}
 use Rattle.rulebook.specs.declared.Rule.{Rule}
@@ -42,14 +41,14 @@ ReportIsTheVerdict =
 -- The arbiter program writes the trace of the run from reset, for the file of its inputs.
 abbrev pub WritesTheTrace : Type 0
 WritesTheTrace =
-    (n : ℕ) (s t : State) (xs : List Inputs) → reset_of n ≡ Ready s → (r : Run arbiter s xs t)
+    (n : ℕ) (s t : State) (xs : List Inputs) → reset_of n ≡ Ok s → (r : Run arbiter s xs t)
     → arbiter_program (stimulus_file n xs) ≡ trace_file n (trace_of r)
 
 -- Every file of valid stimulus lines, no more than a run may have, has such a run.
 abbrev pub EveryStimulusRuns : Type 0
 EveryStimulusRuns =
     (n : ℕ) (xs : List Inputs) → InRange n → Each (ValidInputs n) xs → length xs ≤ most_cycles
-    → (s : State) × (t : State) × (reset_of n ≡ Ready s) × Run arbiter s xs t
+    → (s : State) × (t : State) × (reset_of n ≡ Ok s) × Run arbiter s xs t
 
 -- "From reset, with n masters and any accepted cycles, the arbiter breaks no guarantee", of the two programs: the one reports on what the
 -- other writes, and each line of the report names an assumption.

@@ -3,23 +3,19 @@
 --
 -- "From reset" is a run from the state that reset_of gives; "any accepted cycles" are the inputs of the run, which the step did not refuse.
 -- The rules are those of rulebook/specs/Rules.antt, over the trace that the run shows.
-use Rattle.std.specs.Prelude.{ℕ, ◌+◌, ◌-◌, ◌*◌, ◌≤◌, ◌<◌, ◌≡◌, Bool, true, false, not, ◌&&◌, ltb, length, get_or}
+use Rattle.std.specs.Prelude.{ℕ, ◌+◌, ◌-◌, ◌*◌, ◌≤◌, ◌<◌, ◌≡◌, Bool, true, false, not, ◌&&◌, ltb, length, get_or, Err, Ok, Some}
 use mathlib.Core.List.{List, [], ◌∷◌, Memᴰ}
 use Rattle.rules.specs.declared.Refusal.{Refusal}
-use Rattle.rules.specs.declared.Check.TheVariants.{Good}
 use Rattle.rules.specs.declared.State.{State}
 use Rattle.rules.specs.declared.Inputs.{Inputs}
 use Rattle.rules.specs.declared.Outputs.{Outputs}
 use Rattle.rules.specs.declared.Cycle.{Cycle}
-use Rattle.rules.specs.declared.Answer.{Answer}
-use Rattle.rules.specs.declared.Answer.TheVariants.{Next, Refused}
-use Rattle.rules.specs.declared.Start.TheVariants.{Ready}
+use Rattle.rules.specs.Results.{Answer}
 use Rattle.rules.specs.Codes.{most_cycles, longest_burst}
 use Rattle.rules.specs.Valid.{inputs_check}
 use Rattle.rules.specs.State.{reset_of, well_formed}
 use Rattle.rules.specs.Phase.{seen}
 use Rattle.rules.specs.Step.{chosen, moved, shown}
-use Rattle.rules.specs.declared.Found.TheVariants.{At}
 use Rattle.rulebook.specs.declared.Rule.{Rule}
 use Rattle.rulebook.specs.declared.Rule.TheVariants.{A1, A2, A3, A4, A5, A6, A7, A8, A9, G1, G2, G3, G4, G5, G6, G7, G8, G9, G10, G11, G12}
 use Rattle.rulebook.specs.declared.Judge.{Judge}
@@ -75,19 +71,19 @@ cut_locked_incr (t ∷ h) = handover t && cuts_locked_incr t (opening (access h)
 module _ (step : State → Inputs → Answer) where
   -- "A bad .. state .. is refused by its number, with the state handed back as it came"
   abbrev pub HandsBack : Type 0
-  HandsBack = (s : State) (x : Inputs) (r : Refusal) (s' : State) → step s x ≡ Refused r s' → s' ≡ s
+  HandsBack = (s : State) (x : Inputs) (r : Refusal) (s' : State) → step s x ≡ Err (r, s') → s' ≡ s
 
   -- "Every call answers": a well-formed state below the count limit with a stimulus that is valid for n is never refused.
   abbrev pub NeverRefuses : Type 0
   NeverRefuses =
-      (s : State) (x : Inputs) → well_formed s ≡ true → s.count < most_cycles → inputs_check s.n x ≡ Good
-      → (s' : State) × (o : Outputs) × (step s x ≡ Next s' o)
+      (s : State) (x : Inputs) → well_formed s ≡ true → s.count < most_cycles → inputs_check s.n x ≡ Ok tt
+      → (s' : State) × (o : Outputs) × (step s x ≡ Ok (s', o))
 
   -- "Each cycle's grants, master, lock and decision are those of document 01": what a step shows, and where it leads.
   abbrev pub FollowsThePage : Type 0
   FollowsThePage =
-      (s : State) (x : Inputs) (s' : State) (o : Outputs) → step s x ≡ Next s' o
-      → (o ≡ shown s (seen s x) (decision s x)) × (chosen s x (decision s x) ≡ At s'.g) × (s' ≡ moved s x (decision s x) s'.g)
+      (s : State) (x : Inputs) (s' : State) (o : Outputs) → step s x ≡ Ok (s', o)
+      → (o ≡ shown s (seen s x) (decision s x)) × (chosen s x (decision s x) ≡ Some s'.g) × (s' ≡ moved s x (decision s x) s'.g)
 
   -- a step leads to a well-formed state, so every state that a run reaches is well formed
   abbrev pub StaysWellFormed : Type 0
@@ -96,13 +92,13 @@ module _ (step : State → Inputs → Answer) where
   -- "From reset, with n masters and any accepted cycles, the arbiter breaks no guarantee."
   abbrev pub BreaksNoGuarantee : Type 0
   BreaksNoGuarantee =
-      (n : ℕ) (s t : State) (xs : List Inputs) → reset_of n ≡ Ready s → (r : Run (machine_of step) s xs t)
+      (n : ℕ) (s t : State) (xs : List Inputs) → reset_of n ≡ Ok s → (r : Run (machine_of step) s xs t)
       → (g : Rule) → is_guarantee g ≡ true → (k : ℕ) → k < length (trace_of r) → broken_at n g (trace_of r) k ≡ false
 
   -- So the judge takes the trace, and charges no guarantee in it.
   abbrev pub ClearedByTheJudge : Type 0
   ClearedByTheJudge =
-      (n : ℕ) (s t : State) (xs : List Inputs) → reset_of n ≡ Ready s → (r : Run (machine_of step) s xs t)
+      (n : ℕ) (s t : State) (xs : List Inputs) → reset_of n ≡ Ok s → (r : Run (machine_of step) s xs t)
       → ((j : Judge) × Judged n (trace_of r) j)
       × ((j : Judge) (d : Judged n (trace_of r) j) (k : ℕ) → k < length (trace_of r) → (g : Rule) → is_guarantee g ≡ true → Memᴰ g (get_or (report d) k []) → ⊥)
 
@@ -110,7 +106,7 @@ module _ (step : State → Inputs → Answer) where
   -- and no locked INCR one before its owner's request falls.
   abbrev pub CutsNoBurst : Type 0
   CutsNoBurst =
-      (n : ℕ) (s t : State) (xs : List Inputs) → reset_of n ≡ Ready s → (r : Run (machine_of step) s xs t) → (k : ℕ) → k < length (trace_of r)
+      (n : ℕ) (s t : State) (xs : List Inputs) → reset_of n ≡ Ok s → (r : Run (machine_of step) s xs t) → (k : ℕ) → k < length (trace_of r)
       → (cut (so_far (trace_of r) k) ≡ false) × (cut_locked_incr (so_far (trace_of r) k) ≡ false)
 
   -- "A master requesting at every decision loses at most n-1 in a row":

@@ -4,12 +4,11 @@
 --   with_count k s    == the state s, with the count k
 --   DifferInCount s t == the states s and t differ in the count alone
 --   Alike a b         == the answers a and b show or refuse the same, and leave states that differ in the count alone
-use Rattle.std.specs.Prelude.{ℕ, ◌+◌, ◌≤◌, ◌<◌, ◌≡◌, List, ◌++◌, length, take}
+use Rattle.std.specs.Prelude.{ℕ, ◌+◌, ◌≤◌, ◌<◌, ◌≡◌, List, ◌++◌, length, take, Err, Ok}
 use Rattle.rules.specs.declared.State.{State}
 use Rattle.rules.specs.declared.Inputs.{Inputs}
 use Rattle.rules.specs.declared.Outputs.{Outputs}
-use Rattle.rules.specs.declared.Answer.{Answer}
-use Rattle.rules.specs.declared.Answer.TheVariants.{Next, Refused}
+use Rattle.rules.specs.Results.{Answer}
 use Rattle.rules.specs.Codes.{most_cycles}
 use Rattle.rules.specs.Step.{step_of}
 use Rattle.words.specs.Words.{low_first}
@@ -34,10 +33,10 @@ abbrev pub DifferInCount : State → State → Type 0
 DifferInCount s t = with_count 0 s ≡ with_count 0 t
 
 abbrev pub Alike : Answer → Answer → Type 0
-Alike (Next s o) (Next t p) = (o ≡ p) × DifferInCount s t
-Alike (Next s o) (Refused r t) = ⊥
-Alike (Refused q s) (Next t p) = ⊥
-Alike (Refused q s) (Refused r t) = (q ≡ r) × DifferInCount s t
+Alike (Ok (s, o)) (Ok (t, p)) = (o ≡ p) × DifferInCount s t
+Alike (Ok (s, o)) (Err (r, t)) = ⊥
+Alike (Err (q, s)) (Ok (t, p)) = ⊥
+Alike (Err (q, s)) (Err (r, t)) = (q ≡ r) × DifferInCount s t
 
 -- Two states that differ in the count alone, each below the limit, show the same for every inputs and go on alike; what one refuses the other
 -- refuses by the same number.
@@ -59,6 +58,6 @@ CountInItsBytes = (s : State) (k : ℕ) → state_bytes (with_count k s) ≡ tak
 -- follows, with one more counted.
 abbrev pub LongRunsAreShown : Type 0
 LongRunsAreShown =
-    (d : Display) (s t : State) (x : Inputs) (o : Outputs) (k : ℕ) (rest buffer : List ℕ) → step_of s x ≡ Next t o → k < most_cycles → d.size ≤ length buffer
+    (d : Display) (s t : State) (x : Inputs) (o : Outputs) (k : ℕ) (rest buffer : List ℕ) → step_of s x ≡ Ok (t, o) → k < most_cycles → d.size ≤ length buffer
     → StepCall d x (state_bytes (with_count k s) ++ rest) buffer 0 (state_bytes (with_count (k + 1) t) ++ rest)
     (cycle_stored d (record { inputs = x; outputs = o }) buffer)

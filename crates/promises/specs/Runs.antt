@@ -10,13 +10,12 @@
 --   AtMost C used r  == no access has more than C ready cycles, of which the one that runs has used some
 --   handed_by k i r  == the bus is handed to i by the k-th ready cycle
 --   Unlocked r       == no master's lock line is high in any cycle
-use Rattle.std.specs.Prelude.{ℕ, ◌+◌, ◌-◌, ◌≤◌, ◌≡◌, Bool, true, false, ◌&&◌, cond, List, [], ◌∷◌, eqb, ltb}
+use Rattle.std.specs.Prelude.{ℕ, ◌+◌, ◌-◌, ◌≤◌, ◌≡◌, Bool, true, false, ◌&&◌, cond, List, [], ◌∷◌, eqb, ltb, Ok}
 use Rattle.rules.specs.declared.State.{State}
 use Rattle.rules.specs.declared.Inputs.{Inputs}
 use Rattle.rules.specs.declared.Outputs.{Outputs}
 use Rattle.rules.specs.declared.Cycle.{Cycle}
-use Rattle.rules.specs.declared.Answer.{Answer}
-use Rattle.rules.specs.declared.Start.TheVariants.{Ready}
+use Rattle.rules.specs.Results.{Answer}
 use Rattle.rules.specs.Codes.{ready}
 use Rattle.rules.specs.Masks.{high}
 use Rattle.rules.specs.State.{reset_of}
@@ -31,7 +30,7 @@ pub data Run (M : Machine) : M.Place → List Inputs → M.Place → Type 0 wher
 -- after some run from reset with n masters
 pub record Reached (step : State → Inputs → Answer) (n : ℕ) (t : State) : Type 0 where
   pub first : State
-  pub began : reset_of n ≡ Ready first
+  pub began : reset_of n ≡ Ok first
   pub inputs : List Inputs
   pub run : Run (machine_of step) first inputs t
 

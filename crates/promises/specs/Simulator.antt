@@ -9,11 +9,10 @@
 --                         and left these bytes in their second buffers; the others were refused
 --   Simulates d n lent xs shown last == the arbiter runs from reset with n masters over the inputs xs: the bytes `last` are those of the state
 --                         in which it ends, and the rest of what was lent; what was shown are the cycles of its trace
-use Rattle.std.specs.Prelude.{ℕ, ◌≤◌, ◌≡◌, List, [], ◌∷◌, ◌++◌, map, length, take, drop}
+use Rattle.std.specs.Prelude.{ℕ, ◌≤◌, ◌≡◌, List, [], ◌∷◌, ◌++◌, map, length, take, drop, Ok}
 use Rattle.rules.specs.declared.State.{State}
 use Rattle.rules.specs.declared.Inputs.{Inputs}
 use Rattle.rules.specs.declared.Cycle.{Cycle}
-use Rattle.rules.specs.declared.Start.TheVariants.{Ready}
 use Rattle.rules.specs.Codes.{most_cycles}
 use Rattle.rules.specs.State.{reset_of}
 use Rattle.formats.specs.Promises.{InRange, Each, ValidInputs}
@@ -39,7 +38,7 @@ pub data Calls (d : Display) : List ℕ → List Inputs → List (List ℕ) → 
 pub record Simulates (d : Display) (n : ℕ) (lent : List ℕ) (xs : List Inputs) (shown : List (List ℕ)) (last : List ℕ) : Type 0 where
   pub first : State
   pub end : State
-  pub began : reset_of n ≡ Ready first
+  pub began : reset_of n ≡ Ok first
   pub run : Run arbiter first xs end
   -- "In longer buffers only the first 12 and 31 bytes are used."
   pub bytes : last ≡ state_bytes end ++ drop state_size lent

@@ -10,13 +10,11 @@
 --   HasDump s f     == the input s of vcd2trace has the form f
 --   dump_on f       == what trace2vcd writes for an input of that form
 --   trace_on f      == what vcd2trace writes for an input of that form
-use Rattle.std.specs.Prelude.{ℕ, suc, ◌+◌, ◌≤◌, ◌≡◌, ◌⊎◌, List, [], ◌∷◌, ◌++◌, length}
+use Rattle.std.specs.Prelude.{ℕ, suc, ◌+◌, ◌≤◌, ◌≡◌, ◌⊎◌, List, [], ◌∷◌, ◌++◌, length, Err}
 use Rattle.rules.specs.declared.Refusal.{Refusal}
 use Rattle.rules.specs.declared.Cycle.{Cycle}
 use Rattle.rules.specs.Refusals.{number_of}
 use Rattle.rules.specs.Codes.{most_cycles}
-use Rattle.formats.specs.declared.HeaderRead.TheVariants as head
-use Rattle.formats.specs.declared.TraceRead.TheVariants as step
 use Rattle.formats.specs.Files.{complete, refused_at, trace_file}
 use Rattle.formats.specs.Report.{refused_line}
 use Rattle.formats.specs.Promises.{InRange, Each, ValidCycle}
@@ -47,9 +45,9 @@ pub record DumpBegins (s : List ℕ) (n : ℕ) (cs : List Cycle) (rest : List �
 
 -- after k good steps the time is k; after 1,000,000 of them no step is good
 abbrev pub HasDump : List ℕ → Form Cycle → Type 0
-HasDump s (no_header r) = read_dump_header_of s ≡ head.Refused r
+HasDump s (no_header r) = read_dump_header_of s ≡ Err r
 HasDump s (cut_after n cs r) =
-    (rest : List ℕ) × DumpBegins s n cs rest × (read_step_of n (length cs) (last_of no_cycle cs) s (length (dump n cs)) ≡ step.Refused r)
+    (rest : List ℕ) × DumpBegins s n cs rest × (read_step_of n (length cs) (last_of no_cycle cs) s (length (dump n cs)) ≡ Err r)
 HasDump s (whole n cs) = DumpBegins s n cs []
 
 abbrev pub EveryDumpHasOneForm : Type 0

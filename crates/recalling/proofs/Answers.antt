@@ -3,6 +3,7 @@
 --   header_good     == a header that was read has a good n
 --   head_short, head_begun, head_refused == 9, the trace's header and the start, or the line of a refusal
 --   block_short, block_unformed, block_fit, block_formed == 9, 10, or the stretch
+use Rattle.std.specs.Prelude.{Err, Ok}
 use Prim.Native.Nat.{ℕ, ◌+◌, ◌/◌, ◌≤◌, ◌<◌}
 use mathlib.Core.Path.{◌≡◌, refl, sym, ◌∙◌}
 use mathlib.Core.Bool.{Bool, true, false, not}
@@ -13,8 +14,7 @@ use lib.ListN.{length}
 use Rattle.rules.specs.declared.Refusal.{Refusal}
 use Rattle.rules.specs.State.{masters_ok}
 use Rattle.formats.specs.declared.Word.TheVariants.{Trace}
-use Rattle.formats.specs.declared.HeaderRead.{HeaderRead}
-use Rattle.formats.specs.declared.HeaderRead.TheVariants as head
+use Rattle.formats.specs.Results.{HeaderRead}
 use Rattle.formats.specs.Headers.{header}
 use Rattle.formats.specs.Report.{refused_line}
 use Rattle.streams.specs.declared.Flow.TheVariants.{GoesOn, Stopped, Short, Unformed}
@@ -30,7 +30,7 @@ use Rattle.conversions.specs.Heads.{undump_head_room, undump_headed, undump_head
 use Rattle.conversions.proofs.Answers.{few_lines, many_lines, short, unformed, taken}
 use Rattle.conversions.proofs.UndumpHeads.{undump_head_good}
 
-pub header_good : (s : List ℕ) (a : HeaderRead) (n next : ℕ) → a ≡ read_dump_header_of s → a ≡ head.Header n next → masters_ok n ≡ true
+pub header_good : (s : List ℕ) (a : HeaderRead) (n next : ℕ) → a ≡ read_dump_header_of s → a ≡ Ok (n, next) → masters_ok n ≡ true
 header_good s a n next e f = undump_head_good s n next (sym e ∙ f)
 
 module _ (s buffer : List ℕ) (p : Position) where
@@ -46,11 +46,11 @@ module _ (s buffer : List ℕ) (p : Position) where
     unfolding undump_head_of undump_head_left
     headed r out h = taken 31 true (start_at 0 first_step) (undump_headed (read_dump_header_of s)) buffer room refl r out (rw e at h)
 
-    pub head_begun : (n next k : ℕ) (out : List ℕ) → a ≡ head.Header n next → Put (header Trace n) buffer k out → p ≡ start_at n first_step
+    pub head_begun : (n next k : ℕ) (out : List ℕ) → a ≡ Ok (n, next) → Put (header Trace n) buffer k out → p ≡ start_at n first_step
         → (record { written = k; flow = GoesOn; position = p } ≡ undump_head_of s (length buffer)) × (out ≡ undump_head_left s buffer)
     head_begun n next k out f put g = headed _ out (rw (f, g, put.size), rw f put.puts)
 
-    pub head_refused : (r : Refusal) (k : ℕ) (out : List ℕ) → a ≡ head.Refused r → Put (refused_line 1 r) buffer k out → p ≡ start_at 0 first_step
+    pub head_refused : (r : Refusal) (k : ℕ) (out : List ℕ) → a ≡ Err r → Put (refused_line 1 r) buffer k out → p ≡ start_at 0 first_step
         → (record { written = k; flow = Stopped; position = p } ≡ undump_head_of s (length buffer)) × (out ≡ undump_head_left s buffer)
     head_refused r k out f put g = headed _ out (rw (f, g, put.size), rw f put.puts)
 

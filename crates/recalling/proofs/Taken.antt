@@ -4,6 +4,7 @@
 --   read_as == what was read, as a match tells it
 --   stepped, stepped_out, stepped_none == a step that is taken; one that is refused; and none
 --   sound   == what is known of a step that was read, from a position that is well formed
+use Rattle.std.specs.Prelude.{Err, None, Ok, Some}
 use Prim.Native.Nat.{ℕ, suc, ◌+◌, ◌-◌, ◌*◌, ◌≤◌, ◌<◌}
 use mathlib.Core.Path.{◌≡◌, refl, sym, ◌∙◌, ap}
 use mathlib.Core.Bool.{true, false, cond, true≢false}
@@ -15,13 +16,11 @@ use lib.Dec.{eqb, leb}
 use lib.ListN.{length, get_or, take}
 use lib.Seq.{sets, sets-eq, take-suc}
 use Rattle.rules.specs.declared.Refusal.{Refusal}
-use Rattle.rules.specs.declared.Check.TheVariants.{Good}
 use Rattle.rules.specs.declared.Cycle.{Cycle}
 use Rattle.rules.specs.Codes.{fewest_masters, most_masters, most_cycles}
 use Rattle.rules.specs.Valid.{cycle_check}
 use Rattle.rules.proofs.Choice.{and_right}
-use Rattle.formats.specs.declared.TraceRead.{TraceRead}
-use Rattle.formats.specs.declared.TraceRead.TheVariants.{Line, NoMore, Refused}
+use Rattle.formats.specs.Results.{TraceRead}
 use Rattle.formats.specs.Digits.{lf}
 use Rattle.formats.specs.Lines.{trace_line}
 use Rattle.formats.specs.Report.{refused_line}
@@ -71,18 +70,18 @@ module _ (p : Position) (rest : List ℕ) (a : TraceRead) (e : a ≡ read_step_o
   pub read_as : (r : TraceRead) → a ≡ r → read_step_of p.n p.count p.before rest 0 ≡ r
   read_as r f = sym e ∙ f
 
-  pub stepped_out : (r : Refusal) (k : ℕ) (out : List ℕ) → a ≡ Refused r → Put (refused_line p.line r) buffer k out → Stepped p rest buffer k 0 false p out
+  pub stepped_out : (r : Refusal) (k : ℕ) (out : List ℕ) → a ≡ Err r → Put (refused_line p.line r) buffer k out → Stepped p rest buffer k 0 false p out
   stepped_out r k out f put =
-      let l = step_refused p rest r buffer k out (read_as (Refused r) f) put in
+      let l = step_refused p rest r buffer k out (read_as (Err r) f) put in
       record { lined = l; took = none_taken (undump_turn p rest) (sym l.flow) }
 
-  pub stepped_none : a ≡ NoMore → Stepped p rest buffer 0 0 false p buffer
+  pub stepped_none : a ≡ Ok None → Stepped p rest buffer 0 0 false p buffer
   stepped_none f =
-      let l = step_none p rest buffer (read_as NoMore f) in
+      let l = step_none p rest buffer (read_as (Ok None) f) in
       record { lined = l; took = none_taken (undump_turn p rest) (sym l.flow) }
 
 pub stepped : (p : Position) (rest buffer : List ℕ) (c : Cycle) (next lines : ℕ) (out : List ℕ)
-    → read_step_of p.n p.count p.before rest 0 ≡ Line c next → lines_in (take next rest) ≡ lines → 31 ≤ length buffer → out ≡ sets buffer 0 (trace_line c)
+    → read_step_of p.n p.count p.before rest 0 ≡ Ok (Some (c, next)) → lines_in (take next rest) ≡ lines → 31 ≤ length buffer → out ≡ sets buffer 0 (trace_line c)
     → Stepped p rest buffer 31 next true (after p c lines) out
 stepped p rest buffer c next lines out e l room written =
     let put : Put (trace_line c) buffer 31 out = record { size = refl; puts = written ∙ sets-eq (trace_line c) buffer 0 room } in
@@ -90,7 +89,7 @@ stepped p rest buffer c next lines out e l room written =
     record { lined = s.0; took = s.1 }
 
 -- the columns of a valid cycle fit their places in a line
-cycle_fits : (n : ℕ) (c : Cycle) → n ≤ most_masters → cycle_check n c ≡ Good → Fits c.inputs × FitsOut c.outputs
+cycle_fits : (n : ℕ) (c : Cycle) → n ≤ most_masters → cycle_check n c ≡ Ok tt → Fits c.inputs × FitsOut c.outputs
 cycle_fits n c many valid =
     let w = cycle_passed n c (valid_line n c many valid) in
     let top = masks_below n many in (
@@ -121,7 +120,7 @@ pub record Sound (p : Position) (rest : List ℕ) (c : Cycle) (next lines : ℕ)
   pub inside : next ≤ length rest
 
 pub sound : (p : Position) (rest : List ℕ) (c : Cycle) (next : ℕ) → position_formed p ≡ true
-    → read_step_of p.n p.count p.before rest 0 ≡ Line c next → Sound p rest c next (lines_in (take next rest))
+    → read_step_of p.n p.count p.before rest 0 ≡ Ok (Some (c, next)) → Sound p rest c next (lines_in (take next rest))
 sound p rest c next formed e =
     let f = facts_of p formed in
     let g = found p.n p.count p.before rest c next e in

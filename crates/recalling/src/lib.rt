@@ -10,7 +10,6 @@ ghost use Rattle.conversions.specs.Heads.{undump_head_of, undump_head_left};
 
 use conversions::{Converted, Position};
 pub use cuts::cut;
-use formats::HeaderRead;
 use streams::Flow;
 
 // The header of a dump: 9, or the trace's header and the start, or the line of a refusal.
@@ -25,12 +24,12 @@ pub fn undump_head(head: &[u8], out: &mut [u8]) -> Converted
         };
     }
     match scans::read_dump_header(head) {
-        HeaderRead::Header(n, _) => Converted {
+        Ok((n, _)) => Converted {
             written: reports::put_header(n, out),
             flow: Flow::GoesOn,
             position: positions::start(n, 17),
         },
-        HeaderRead::Refused(r) => Converted {
+        Err(r) => Converted {
             written: reports::put_refused(1, r, out),
             flow: Flow::Stopped,
             position: positions::start(0, 17),

@@ -1,6 +1,5 @@
 // A block of steps, one after the other: the trace line of each, and the end of the program at a step that is refused.
 ghost use Rattle.std.specs.Prelude.{◌≡◌, true, ◌≤◌, length, take as front};
-ghost use Rattle.formats.specs.declared.TraceRead.TheVariants.{Line};
 ghost use Rattle.streams.specs.Blocks.{bytes_of};
 ghost use Rattle.streams.specs.Turns.{over};
 ghost use Rattle.waves.specs.Reading.{read_step_of};
@@ -10,7 +9,6 @@ ghost use Rattle.conversions.specs.Blocks.{undump_room, as_converted, undump_str
 ghost use Rattle.recalling.specs.Stepped.{Stepped};
 
 use conversions::{Converted, Position};
-use formats::TraceRead;
 use rules::Cycle;
 use streams::Flow;
 
@@ -41,7 +39,7 @@ fn lines_in(s: &[u8], n: usize) -> u32
 
 // A step that was read: its trace line is written.
 fn go(p: Position, rest: &[u8], c: Cycle, next: usize, lines: u32, out: &mut [u8]) -> Went
-    requires { (position_formed p ≡ true) × (read_step_of p.n p.count p.before rest.now 0 ≡ Line c next) × (lines_in (front next rest.now) ≡ lines) × (31 ≤ length out.old) }
+    requires { (position_formed p ≡ true) × (read_step_of p.n p.count p.before rest.now 0 ≡ Ok (Some (c, next))) × (lines_in (front next rest.now) ≡ lines) × (31 ≤ length out.old) }
     ensures { Stepped p rest.now out.old result.written result.taken result.on result.position out.new }
 {
     prints::put_cycle(c, out);
@@ -66,14 +64,14 @@ fn read(p: Position, rest: &[u8], out: &mut [u8]) -> Went
 {
     let before = p.before;
     match scans::read_step(p.n, p.count, before, rest, 0) {
-        TraceRead::Line(c, next) => go(p, rest, c, next, lines_in(rest, next), out),
-        TraceRead::NoMore => Went {
+        Ok(Some((c, next))) => go(p, rest, c, next, lines_in(rest, next), out),
+        Ok(None) => Went {
             written: 0,
             taken: 0,
             on: false,
             position: p,
         },
-        TraceRead::Refused(r) => Went {
+        Err(r) => Went {
             written: reports::put_refused(p.line, r, out),
             taken: 0,
             on: false,

@@ -2,6 +2,7 @@
 --
 --   fits            == a writer of bytes that fit writes them
 --   refused_fits, end_fits, breach_fits, header_fits == so do those of the report's lines and of the header
+use Rattle.std.specs.Prelude.{Ok}
 use Prim.Native.Nat.{ℕ, ◌^◌, ◌≤◌, ◌<◌}
 use mathlib.Core.Path.{◌≡◌, ap, ◌∙◌}
 use mathlib.Core.Bool.{true}
@@ -10,11 +11,10 @@ use native.Mathlib.Omega.{arith}
 use borrow.Author.Tests.{le-ltb}
 use lib.ListN.{length}
 use Rattle.rules.specs.declared.Refusal.{Refusal}
-use Rattle.rules.specs.declared.Check.{Check}
-use Rattle.rules.specs.declared.Check.TheVariants.{Good}
+use Rattle.rules.specs.Results.{Check}
 use Rattle.rules.specs.State.{masters_ok}
 use Rattle.rulebook.specs.declared.Rule.{Rule}
-use Rattle.formats.specs.declared.Written.{Written}
+use Rattle.formats.specs.Results.{Written}
 use Rattle.formats.specs.declared.Word.TheVariants.{Trace}
 use Rattle.formats.specs.Lines.{fitted, left, for_masters}
 use Rattle.formats.specs.Headers.{header, write_header_of, header_written}
@@ -29,7 +29,7 @@ module _ (bytes buffer out : List ℕ) (w : Written) (k : ℕ) where
       record { size = size ∙ ap size_of (simp there at e.0); puts = simp there at e.1 }
 
   -- over any check that passes
-  passed : (c : Check) → c ≡ Good → length bytes ≤ length buffer
+  passed : (c : Check) → c ≡ Ok tt → length bytes ≤ length buffer
       → (w ≡ fitted c (length bytes) (length buffer)) × (out ≡ left (fitted c (length bytes) (length buffer)) bytes buffer)
       → k ≡ size_of w → Put bytes buffer k out
   passed c good room e size = fits room (rw good at e) size
@@ -57,4 +57,4 @@ module _ (buffer out : List ℕ) (w : Written) (k : ℕ) where
       → Put (header Trace n) buffer k out
   unfolding write_header_of header_written
   header_fits n good h room e size =
-      passed (header Trace n) buffer out w k (for_masters n Good) (rw good) (omega (arith, header_size n h)) e size
+      passed (header Trace n) buffer out w k (for_masters n (Ok tt)) (rw good) (omega (arith, header_size n h)) e size

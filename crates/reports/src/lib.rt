@@ -12,17 +12,17 @@ ghost use Rattle.formats.specs.Report.{breach_line, end_line, refused_line};
 ghost use Rattle.streams.specs.Turns.{size_of, Put};
 ghost use Rattle.streams.specs.Breaches.{Reported};
 
-use formats::{Word, Written};
+use formats::Word;
 use rulebook::Rule;
 use rules::Refusal;
 
 // The bytes that a writer wrote.
-fn size(w: Written) -> usize
+fn size(w: Result<usize, Refusal>) -> usize
     ensures { result ≡ size_of w }
 {
     match w {
-        Written::Bytes(k) => k,
-        Written::Refused(_) => 0,
+        Ok(k) => k,
+        Err(_) => 0,
     }
 }
 

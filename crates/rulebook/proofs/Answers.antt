@@ -5,6 +5,7 @@
 --   refused       == a step that is refused hands the judge back
 --   next_verdict, next_judge_lem == the answer of a step that is taken
 --   begun, begins == a start is taken exactly for n from 2 to 16, with the judge of a start
+use Rattle.std.specs.Prelude.{Err, Ok}
 use Prim.Native.Nat.{ℕ, ◌≤◌, ◌<◌}
 use mathlib.Core.Path.{◌≡◌, refl, ap}
 use mathlib.Core.Bool.{Bool, true, false}
@@ -13,8 +14,7 @@ use borrow.Author.Tests.{leb-true, leb-false, lt-leb}
 use lib.Dec.{leb}
 use Rattle.rules.specs.declared.Refusal.{Refusal}
 use Rattle.rules.specs.declared.Refusal.TheVariants as refusal
-use Rattle.rules.specs.declared.Check.{Check}
-use Rattle.rules.specs.declared.Check.TheVariants.{Good, Bad}
+use Rattle.rules.specs.Results.{Check}
 use Rattle.rules.specs.declared.Cycle.{Cycle}
 use Rattle.rules.specs.Codes.{fewest_masters, most_masters, most_cycles}
 use Rattle.rules.specs.Valid.{cycle_check}
@@ -23,13 +23,12 @@ use Rattle.rules.proofs.Choice.{either, and_left, and_right}
 use Rattle.rules.proofs.WellFormed.{masters_ok_lem}
 use Rattle.rulebook.specs.declared.Judge.{Judge}
 use Rattle.rulebook.specs.declared.Judgement.{Judgement}
-use Rattle.rulebook.specs.declared.Verdict.TheVariants.{Taken, Refused}
 use Rattle.rulebook.specs.State.{start_judge, start_of, well_formed}
 use Rattle.rulebook.specs.Charges.{next_judge}
 use Rattle.rulebook.specs.Step.{refused_of, taken_of, judge_of}
 use Rattle.rulebook.specs.Promises.{Accepted}
 
-pub accepted : (j : Judge) (c : Cycle) → well_formed j ≡ true → j.count < most_cycles → cycle_check j.n c ≡ Good → Accepted j c
+pub accepted : (j : Judge) (c : Cycle) → well_formed j ≡ true → j.count < most_cycles → cycle_check j.n c ≡ Ok tt → Accepted j c
 unfolding judge_of
 accepted j c sound room good =
     record { sound = sound; room = room; good = good; is = rw (sound, lt-leb most_cycles j.count room, good) }
@@ -43,15 +42,15 @@ unfolding judge_of
 outcome j c = go (well_formed j) (leb most_cycles j.count) (cycle_check j.n c) refl refl refl
   where
     go : (sound full : Bool) (k : Check) → well_formed j ≡ sound → leb most_cycles j.count ≡ full → cycle_check j.n c ≡ k → Outcome j c
-    go true false Good p q r = accepts (accepted j c p (leb-false most_cycles j.count q) r)
-    go true false (Bad f) p q r = refuses f (rw (p, q, r))
+    go true false (Ok _) p q r = accepts (accepted j c p (leb-false most_cycles j.count q) r)
+    go true false (Err f) p q r = refuses f (rw (p, q, r))
     go true true k p q r = refuses refusal.Full (rw (p, q))
     go false full k p q r = refuses refusal.State (rw p)
 
 verdict_is : {a b : Judgement} → a ≡ b → a.verdict ≡ b.verdict
 verdict_is e = ap (λ (a : Judgement). a.verdict) e
 
-pub taken : (j : Judge) (c : Cycle) → (judge_of j c).verdict ≡ Taken → Accepted j c
+pub taken : (j : Judge) (c : Cycle) → (judge_of j c).verdict ≡ Ok tt → Accepted j c
 unfolding refused_of
 taken j c e = go (outcome j c)
   where
@@ -59,7 +58,7 @@ taken j c e = go (outcome j c)
     go (accepts a) = a
     go (refuses r q) = let v = verdict_is q in let z : ◌≡◌ {A = ℕ} 0 1 = cc in absurd (omega arith)
 
-pub refused : (j : Judge) (c : Cycle) (r : Refusal) → (judge_of j c).verdict ≡ Refused r → judge_of j c ≡ refused_of j r
+pub refused : (j : Judge) (c : Cycle) (r : Refusal) → (judge_of j c).verdict ≡ Err r → judge_of j c ≡ refused_of j r
 unfolding refused_of taken_of
 refused j c r e = go (outcome j c)
   where
@@ -68,7 +67,7 @@ refused j c r e = go (outcome j c)
     go (refuses f q) = let v = verdict_is q in let same : f ≡ r = cc in rw same at q
 
 module _ (j : Judge) (c : Cycle) (a : Accepted j c) where
-  pub next_verdict : (judge_of j c).verdict ≡ Taken
+  pub next_verdict : (judge_of j c).verdict ≡ Ok tt
   unfolding taken_of
   next_verdict = verdict_is a.is
 
@@ -81,7 +80,7 @@ pub record Begun (n : ℕ) : Type 0 where
   pub many : n ≤ most_masters
   pub is : (start_of n).judge ≡ start_judge n
 
-pub begun : (n : ℕ) → (start_of n).verdict ≡ Taken → Begun n
+pub begun : (n : ℕ) → (start_of n).verdict ≡ Ok tt → Begun n
 unfolding start_of
 begun n e =
     either (masters_ok n)
@@ -93,6 +92,6 @@ begun n e =
     })
     (λ p. let q = rw p at e in let z : ◌≡◌ {A = ℕ} 0 1 = cc in absurd (omega arith))
 
-pub begins : (n : ℕ) → fewest_masters ≤ n → n ≤ most_masters → (start_of n).verdict ≡ Taken
+pub begins : (n : ℕ) → fewest_masters ≤ n → n ≤ most_masters → (start_of n).verdict ≡ Ok tt
 unfolding start_of
 begins n few many = rw (masters_ok_lem n few many)

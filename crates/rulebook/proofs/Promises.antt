@@ -1,4 +1,5 @@
 -- The promises of specs/Promises.antt, each proved by the law of its name.
+use Rattle.std.specs.Prelude.{Err, Ok}
 use Prim.Native.Nat.{ℕ, zero, suc, ◌<◌}
 use mathlib.Core.Path.{◌≡◌, refl, sym, ◌∙◌, ap}
 use mathlib.Core.List.{List, []}
@@ -12,8 +13,7 @@ use Rattle.rules.specs.Valid.{cycle_check}
 use Rattle.rules.proofs.Promises.{some_number}
 use Rattle.rulebook.specs.declared.Rule.{Rule}
 use Rattle.rulebook.specs.declared.Judge.{Judge}
-use Rattle.rulebook.specs.declared.Verdict.{Verdict}
-use Rattle.rulebook.specs.declared.Verdict.TheVariants.{Taken, Refused}
+use Rattle.rulebook.specs.Results.{Verdict}
 use Rattle.rulebook.specs.declared.Judgement.{Judgement}
 use Rattle.rulebook.specs.Rules.{rules, broken_at, broken_rules}
 use Rattle.rulebook.specs.State.{start_judge, start_of}
@@ -114,9 +114,9 @@ charged_once = (
 )
 
 -- a verdict by its number
-zero_taken : (v : Verdict) → number_of v ≡ 0 → v ≡ Taken
-zero_taken Taken e = refl
-zero_taken (Refused r) e = absurd (some_number r e)
+zero_taken : (v : Verdict) → number_of v ≡ 0 → v ≡ Ok tt
+zero_taken (Ok _) e = refl
+zero_taken (Err r) e = absurd (some_number r e)
 
 pub taken_by_number : TakenByNumber
 taken_by_number j c e = taken j c (zero_taken (judge_of j c).verdict e)
@@ -125,8 +125,8 @@ pub hands_back_by_number : HandsBackByNumber
 hands_back_by_number j c ne = go (judge_of j c).verdict refl
   where
     go : (v : Verdict) → (judge_of j c).verdict ≡ v → ((judge_of j c).judge ≡ j) × (charged_rules (judge_of j c) ≡ [])
-    go Taken e = absurd (ne (ap number_of e))
-    go (Refused r) e = refusals_hand_back j c r e
+    go (Ok _) e = absurd (ne (ap number_of e))
+    go (Err r) e = refusals_hand_back j c r e
 
 pub first_test_answers : FirstTestAnswers
 unfolding judge_of refused_of taken_of cycle_check

@@ -3,6 +3,7 @@
 --   form_same, charges_same, lost_same == what a judge that has taken a cycle does with another count
 --   judged_same     == one step with another count
 --   recounted_sound == another count leaves a judge well formed
+use Rattle.std.specs.Prelude.{Err, Ok}
 use Prim.Native.Nat.{ℕ, suc, ◌+◌, ◌≤◌, ◌<◌}
 use mathlib.Core.Path.{◌≡◌, refl, sym, ◌∙◌, ap}
 use mathlib.Core.Bool.{Bool, true, false}
@@ -10,8 +11,7 @@ use mathlib.Core.List.{List, [], ◌∷◌, map}
 use native.Mathlib.Omega.{arith}
 use borrow.Author.Tests.{le-leb, lt-leb, ne_eqb}
 use lib.Dec.{eqb}
-use Rattle.rules.specs.declared.Check.{Check}
-use Rattle.rules.specs.declared.Check.TheVariants.{Good, Bad}
+use Rattle.rules.specs.Results.{Check}
 use Rattle.rules.specs.declared.Cycle.{Cycle}
 use Rattle.rules.specs.Codes.{burst_of, most_masters, most_cycles}
 use Rattle.rules.specs.Masks.{high}
@@ -19,7 +19,6 @@ use Rattle.rules.specs.Valid.{inputs_too_large, outputs_too_large, inputs_not_bu
 use Rattle.rulebook.specs.declared.Rule.{Rule}
 use Rattle.rulebook.specs.declared.Rule.TheVariants.{A1, A2, A3, A4, A5, A6, A7, A8, A9, G1, G2, G3, G4, G5, G6, G7, G8, G9, G10, G11, G12}
 use Rattle.rulebook.specs.declared.Judge.{Judge}
-use Rattle.rulebook.specs.declared.Verdict.TheVariants.{Taken}
 use Rattle.rulebook.specs.Columns.{owners_request, handover, some_below}
 use Rattle.rulebook.specs.Traces.{opens}
 use Rattle.rulebook.specs.Rules.{locked_incr, is_watched, rules, broken}
@@ -85,7 +84,7 @@ module _ (j : Judge) (k : ℕ) (some : 1 ≤ j.count) (more : 1 ≤ k) where
     next_same = rw (list_same 0 16 (lost_after (with_count k j) c) (lost_after j c) (λ i below. lost_same i))
 
     taken_same : taken_of (with_count k j) c
-        ≡ record { judge = with_count (k + 1) (taken_of j c).judge; verdict = Taken; charged = (taken_of j c).charged }
+        ≡ record { judge = with_count (k + 1) (taken_of j c).judge; verdict = Ok tt; charged = (taken_of j c).charged }
     unfolding taken_of
     taken_same = rw (next_same, map_same (charges (with_count k j) c) (charges j c) charges_same rules)
 
@@ -94,12 +93,12 @@ module _ (j : Judge) (k : ℕ) (some : 1 ≤ j.count) (more : 1 ≤ k) where
         × ((checked_of f (with_count k j) c).charged ≡ (checked_of f j c).charged)
         × DifferInCount (checked_of f (with_count k j) c).judge (checked_of f j c).judge
     unfolding taken_of refused_of
-    checked_same Good = (
+    checked_same (Ok _) = (
       refl,
       map_same (charges (with_count k j) c) (charges j c) charges_same rules,
       ap (with_count 0) next_same,
     )
-    checked_same (Bad r) = (refl, refl, refl)
+    checked_same (Err r) = (refl, refl, refl)
 
     judged_same : j.count < most_cycles → k < most_cycles
         → ((judge_of (with_count k j) c).verdict ≡ (judge_of j c).verdict)

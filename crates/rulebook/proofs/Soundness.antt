@@ -3,6 +3,7 @@
 --   start_lost  == the lost counts of a start are 0
 --   start_sound == the judge of a start is well formed
 --   step_sound  == and so is the judge after a valid cycle
+use Rattle.std.specs.Prelude.{Ok}
 use Prim.Native.Nat.{ℕ, ◌-◌, ◌^◌, ◌≤◌, ◌<◌}
 use mathlib.Core.Path.{◌≡◌, refl, ◌∙◌}
 use mathlib.Core.Bool.{Bool, true, false, ◌||◌, cond}
@@ -13,7 +14,6 @@ use lib.ListN.{get_or, get_or-replicate}
 use lib.Pow.{pow_pos}
 use Rattle.rules.specs.declared.Burst.{Burst}
 use Rattle.rules.specs.declared.Burst.TheVariants as burst
-use Rattle.rules.specs.declared.Check.TheVariants.{Good}
 use Rattle.rules.specs.declared.Cycle.{Cycle}
 use Rattle.rules.specs.Codes.{burst_of, most_masters, most_cycles, longest_burst}
 use Rattle.rules.specs.Valid.{inputs_too_large, outputs_too_large, inputs_not_built, inputs_absent, cycle_check}
@@ -33,7 +33,7 @@ use Rattle.rulebook.specs.Kept.{Sound}
 use Rattle.rulebook.proofs.Rows.{longer_below}
 use Rattle.rulebook.proofs.Counts.{list_at, list_length, some_limit}
 
-no_cycle_good : (n : ℕ) → 2 ≤ n → cycle_check n no_cycle ≡ Good
+no_cycle_good : (n : ℕ) → 2 ≤ n → cycle_check n no_cycle ≡ Ok tt
 unfolding cycle_check inputs_too_large outputs_too_large inputs_not_built inputs_absent burst_of
 no_cycle_good n few = rw (lt-leb (2 ^ n) 0 (pow_pos n), lt-leb n 0 (omega arith))
 
@@ -106,7 +106,7 @@ after_ok false true s w c h = on_ok w c h
 after_ok false false true w c h = from_ok c
 after_ok false false false w c h = refl
 
-pub step_sound : (j : Judge) (c : Cycle) → Sound j → cycle_check j.n c ≡ Good → j.count < most_cycles → Sound (next_judge j c)
+pub step_sound : (j : Judge) (c : Cycle) → Sound j → cycle_check j.n c ≡ Ok tt → j.count < most_cycles → Sound (next_judge j c)
 unfolding next_judge opened_after watch_after
 step_sound j c s good room =
     record {

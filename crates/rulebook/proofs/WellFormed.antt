@@ -3,6 +3,7 @@
 --   good_is  == a check that is good is Good
 --   facts_of == what passes the test, with a count for each of sixteen masters, has the facts
 --   test_of  == what has the facts passes the test
+use Rattle.std.specs.Prelude.{Err, Ok}
 use Prim.Native.Nat.{ℕ, ◌≤◌, ◌<◌}
 use mathlib.Core.Path.{◌≡◌, refl, sym, ◌∙◌}
 use mathlib.Core.Bool.{Bool, true, false, not, ◌&&◌, ◌||◌, false≢true}
@@ -12,8 +13,7 @@ use borrow.Author.Tests.{ltb-true, leb-true, leb-false, eqb-true, lt-ltb, le-leb
 use lib.Dec.{eqb, ltb, leb}
 use lib.ListN.{length, get_or}
 use lib.Seq.{ext_get_or}
-use Rattle.rules.specs.declared.Check.{Check}
-use Rattle.rules.specs.declared.Check.TheVariants.{Good, Bad}
+use Rattle.rules.specs.Results.{Check}
 use Rattle.rules.specs.declared.Inputs.{Inputs}
 use Rattle.rules.specs.declared.Outputs.{Outputs}
 use Rattle.rules.specs.Codes.{most_masters}
@@ -68,9 +68,9 @@ start_of : (j : Judge) → starts_out j ≡ true → Start j
 unfolding starts_out
 start_of j e = search (and_left, and_right) depth 10
 
-pub good_is : (k : Check) → is_good k ≡ true → k ≡ Good
-good_is Good e = refl
-good_is (Bad r) e = absurd (false≢true e)
+pub good_is : (k : Check) → is_good k ≡ true → k ≡ Ok tt
+good_is (Ok _) e = refl
+good_is (Err r) e = absurd (false≢true e)
 
 nothing_is : (w : Watch) → no_watch w ≡ true → w ≡ Nothing
 nothing_is Nothing e = refl

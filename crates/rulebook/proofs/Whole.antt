@@ -6,13 +6,13 @@
 --   run_sound      == a well-formed judge stays so
 --   run_of         == a well-formed judge takes every trace of valid cycles that its count has room for
 --   run_limits     == and no other
+use Rattle.std.specs.Prelude.{Ok}
 use Prim.Native.Nat.{ℕ, zero, suc, ◌+◌, ◌≤◌, ◌<◌}
 use mathlib.Core.Path.{◌≡◌, refl, ◌∙◌, ap}
 use mathlib.Core.Bool.{Bool}
 use mathlib.Core.List.{List, [], ◌∷◌, map}
 use native.Mathlib.Omega.{arith}
 use lib.ListN.{length, get_or}
-use Rattle.rules.specs.declared.Check.TheVariants.{Good}
 use Rattle.rules.specs.declared.Cycle.{Cycle}
 use Rattle.rules.specs.Codes.{most_cycles}
 use Rattle.rules.specs.Valid.{cycle_check}
@@ -96,7 +96,7 @@ run_of (c ∷ l) j s room valid =
     (λ t below. rw (next_n j c a) (valid (suc t) (omega arith))) in
     (r.0, takes (next_verdict j c a) r.1)
 
-valid_more : (n : ℕ) (c : Cycle) (l : List Cycle) → cycle_check n c ≡ Good → ValidTrace n l → ValidTrace n (c ∷ l)
+valid_more : (n : ℕ) (c : Cycle) (l : List Cycle) → cycle_check n c ≡ Ok tt → ValidTrace n l → ValidTrace n (c ∷ l)
 valid_more n c l good valid zero below = good
 valid_more n c l good valid (suc t) below = valid t (omega arith)
 

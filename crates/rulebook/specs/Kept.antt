@@ -3,8 +3,7 @@
 --   access_watch o          == the watch in an access at its opening
 --   kept_of n h == the judge after the history h
 --   Sound j     == a well-formed judge, as facts
-use Rattle.std.specs.Prelude.{ℕ, ◌-◌, ◌%◌, ◌≤◌, ◌<◌, ◌≡◌, Bool, true, false, cond, List, [], ◌∷◌, length, get_or}
-use Rattle.rules.specs.declared.Check.TheVariants.{Good}
+use Rattle.std.specs.Prelude.{ℕ, ◌-◌, ◌%◌, ◌≤◌, ◌<◌, ◌≡◌, Bool, true, false, cond, List, [], ◌∷◌, length, get_or, Ok}
 use Rattle.rules.specs.declared.Burst.{Burst}
 use Rattle.rules.specs.declared.Burst.TheVariants as burst
 use Rattle.rules.specs.declared.Cycle.{Cycle}
@@ -57,7 +56,7 @@ pub record Sound (j : Judge) : Type 0 where
   pub few : 2 ≤ j.n
   pub many : j.n ≤ most_masters
   pub room : j.count ≤ most_cycles
-  pub previous : cycle_check j.n j.previous ≡ Good
+  pub previous : cycle_check j.n j.previous ≡ Ok tt
   pub locked : j.locked < 1024
   pub waited : j.waited < 17
   pub size : length j.lost ≡ most_masters

@@ -10,16 +10,14 @@
 --   Distinct l         == no rule stands twice in the list l
 --   Accepted j c       == nothing is refused, and the step is taken
 --   NumberOf j c       == the number that the step answers, test by test
-use Rattle.std.specs.Prelude.{ℕ, zero, suc, ◌+◌, ◌≤◌, ◌<◌, ◌≡◌, ◌↔◌, true, false, ◌||◌, length, get_or}
+use Rattle.std.specs.Prelude.{ℕ, zero, suc, ◌+◌, ◌≤◌, ◌<◌, ◌≡◌, ◌↔◌, true, false, ◌||◌, length, get_or, Err, Ok}
 use mathlib.Core.List.{List, [], ◌∷◌, Memᴰ}
 use Rattle.rules.specs.declared.Refusal.{Refusal}
-use Rattle.rules.specs.declared.Check.TheVariants.{Good}
 use Rattle.rules.specs.declared.Cycle.{Cycle}
 use Rattle.rules.specs.Codes.{fewest_masters, most_masters, most_cycles}
 use Rattle.rules.specs.Valid.{inputs_too_large, outputs_too_large, inputs_not_built, inputs_absent, outputs_absent, owner_absent, cycle_check}
 use Rattle.rulebook.specs.declared.Rule.{Rule}
 use Rattle.rulebook.specs.declared.Judge.{Judge}
-use Rattle.rulebook.specs.declared.Verdict.TheVariants.{Taken, Refused}
 use Rattle.rulebook.specs.Traces.{newest_first}
 use Rattle.rulebook.specs.Rules.{broken_at, broken_rules}
 use Rattle.rulebook.specs.State.{no_cycle, well_formed}
@@ -45,7 +43,7 @@ abbrev pub whole_of : List Cycle → List Cycle
 whole_of trace = newest_first [] trace
 
 abbrev pub ValidTrace : ℕ → List Cycle → Type 0
-ValidTrace n trace = (t : ℕ) → t < length trace → cycle_check n (get_or trace t no_cycle) ≡ Good
+ValidTrace n trace = (t : ℕ) → t < length trace → cycle_check n (get_or trace t no_cycle) ≡ Ok tt
 
 -- "The report has one line a breach, .. by cycle and then in the order above": at each cycle of a trace that is judged, the rules
 -- charged are the rules broken there, in that order. No other report fits.
@@ -91,22 +89,22 @@ TestIsFacts = (j : Judge) → length j.lost ≡ most_masters → (well_formed j 
 -- of them is taken, and answers with the charges and the judge after the cycle,
 abbrev pub NeverRefused : Type 0
 NeverRefused = (j : Judge) (c : Cycle)
-    → Sound j → j.count < most_cycles → cycle_check j.n c ≡ Good
+    → Sound j → j.count < most_cycles → cycle_check j.n c ≡ Ok tt
     → judge_of j c ≡ taken_of j c
 
 -- and no other step is
 pub record Accepted (j : Judge) (c : Cycle) : Type 0 where
   pub sound : well_formed j ≡ true
   pub room : j.count < most_cycles
-  pub good : cycle_check j.n c ≡ Good
+  pub good : cycle_check j.n c ≡ Ok tt
   pub is : judge_of j c ≡ taken_of j c
 
 abbrev pub TakenOnlyThen : Type 0
-TakenOnlyThen = (j : Judge) (c : Cycle) → (judge_of j c).verdict ≡ Taken → Accepted j c
+TakenOnlyThen = (j : Judge) (c : Cycle) → (judge_of j c).verdict ≡ Ok tt → Accepted j c
 
 -- "Every refusal returns its number with the state and position as given": and no rule is charged.
 abbrev pub RefusalsHandBack : Type 0
-RefusalsHandBack = (j : Judge) (c : Cycle) (r : Refusal) → (judge_of j c).verdict ≡ Refused r
+RefusalsHandBack = (j : Judge) (c : Cycle) (r : Refusal) → (judge_of j c).verdict ≡ Err r
     → ((judge_of j c).judge ≡ j) × (charged_rules (judge_of j c) ≡ [])
 
 -- The same by the numbers of the page: a step that answers 0 is one that is taken, and one that answers another number hands the judge back.

@@ -7,11 +7,10 @@
 --   DifferInCount j k == the judges j and k differ in the count alone
 --   counted k j c     == what a step of j with the count k answers: its number, and the rules that it charges as a mask
 --   rows, wanted      == some steps with the count 1 and with 0, and what the page says of them
-use Rattle.std.specs.Prelude.{ℕ, ◌+◌, ◌^◌, ◌≤◌, ◌<◌, ◌≡◌, false, List, [], ◌∷◌, map, replicate}
+use Rattle.std.specs.Prelude.{ℕ, ◌+◌, ◌^◌, ◌≤◌, ◌<◌, ◌≡◌, false, List, [], ◌∷◌, map, replicate, Ok}
 use Rattle.rules.specs.declared.Cycle.{Cycle}
 use Rattle.rules.specs.Codes.{fewest_masters, most_masters, most_cycles}
 use Rattle.rulebook.specs.declared.Judge.{Judge}
-use Rattle.rulebook.specs.declared.Verdict.TheVariants.{Taken}
 use Rattle.rulebook.specs.declared.Watch.TheVariants.{Nothing}
 use Rattle.rulebook.specs.Rules.{rules, broken}
 use Rattle.rulebook.specs.State.{no_cycle}
@@ -56,7 +55,7 @@ ExactAtAnyLength = (n k : ℕ) (c p : Cycle) (h : List Cycle)
     → judge_of (with_count k (kept_of n (p ∷ h))) c
     ≡ record {
       judge = with_count (k + 1) (kept_of n (c ∷ (p ∷ h)));
-      verdict = Taken;
+      verdict = Ok tt;
       charged = map (λ r. broken n r (c ∷ (p ∷ h))) rules;
     }
 

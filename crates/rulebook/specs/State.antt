@@ -5,10 +5,9 @@
 --   counts_ok n l == the lost counts are below the limit, and 0 for absent masters
 --   starts_out j  == all but n is zero or none
 --   well_formed j == the judge j is well formed
-use Rattle.std.specs.Prelude.{ℕ, ◌-◌, Bool, true, false, not, ◌&&◌, ◌||◌, cond, List, eqb, ltb, leb, get_or, replicate}
+use Rattle.std.specs.Prelude.{ℕ, ◌-◌, Bool, true, false, not, ◌&&◌, ◌||◌, cond, List, eqb, ltb, leb, get_or, replicate, Err, Ok}
 use Rattle.rules.specs.declared.Refusal.TheVariants as refusal
-use Rattle.rules.specs.declared.Check.{Check}
-use Rattle.rules.specs.declared.Check.TheVariants.{Good, Bad}
+use Rattle.rules.specs.Results.{Check}
 use Rattle.rules.specs.declared.Outputs.{Outputs}
 use Rattle.rules.specs.declared.Cycle.{Cycle}
 use Rattle.rules.specs.Codes.{most_masters, most_cycles, longest_burst}
@@ -17,7 +16,6 @@ use Rattle.rules.specs.State.{masters_ok}
 use Rattle.rulebook.specs.declared.Watch.{Watch}
 use Rattle.rulebook.specs.declared.Watch.TheVariants.{Nothing, OnG2, OnG3}
 use Rattle.rulebook.specs.declared.Judge.{Judge}
-use Rattle.rulebook.specs.declared.Verdict.TheVariants.{Taken, Refused}
 use Rattle.rulebook.specs.declared.Started.{Started}
 use Rattle.rulebook.specs.Columns.{some_below}
 use Rattle.rulebook.specs.Rules.{limit, no_input}
@@ -47,8 +45,8 @@ start_judge n =
 unfoldable pub start_of : ℕ → Started
 start_of n =
     cond (masters_ok n)
-    (record { judge = start_judge n; verdict = Taken })
-    (record { judge = start_judge 0; verdict = Refused refusal.Masters })
+    (record { judge = start_judge n; verdict = Ok tt })
+    (record { judge = start_judge 0; verdict = Err refusal.Masters })
 
 abbrev pub watch_ok : Bool → Watch → Bool
 watch_ok opened Nothing = true
@@ -56,8 +54,8 @@ watch_ok opened OnG2 = opened
 watch_ok opened (OnG3 k) = opened && leb 1 k && leb k (longest_burst - 1)
 
 abbrev pub is_good : Check → Bool
-is_good Good = true
-is_good (Bad r) = false
+is_good (Ok _) = true
+is_good (Err r) = false
 
 -- a lost count at the limit or above, or one of an absent master that is not 0
 abbrev pub wrong_count : ℕ → List ℕ → ℕ → Bool

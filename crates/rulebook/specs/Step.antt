@@ -7,38 +7,36 @@
 --   Judged n trace j == the judge for n masters takes the whole trace, and is then j
 --   report run       == the rules charged at each cycle of such a trace
 --   breaches l       == how many they are: the second number of the end line
-use Rattle.std.specs.Prelude.{ℕ, ◌+◌, ◌≡◌, Bool, false, not, cond, List, [], ◌∷◌, map, leb, length}
+use Rattle.std.specs.Prelude.{ℕ, ◌+◌, ◌≡◌, Bool, false, not, cond, List, [], ◌∷◌, map, leb, length, Err, Ok}
 use Rattle.rules.specs.declared.Refusal.{Refusal}
 use Rattle.rules.specs.declared.Refusal.TheVariants as refusal
-use Rattle.rules.specs.declared.Check.{Check}
-use Rattle.rules.specs.declared.Check.TheVariants.{Good, Bad}
+use Rattle.rules.specs.Results.{Check}
 use Rattle.rules.specs.declared.Cycle.{Cycle}
 use Rattle.rules.specs.Codes.{most_cycles}
 use Rattle.rules.specs.Refusals.{number_of as refusal_number}
 use Rattle.rules.specs.Valid.{cycle_check}
 use Rattle.rulebook.specs.declared.Rule.{Rule}
 use Rattle.rulebook.specs.declared.Judge.{Judge}
-use Rattle.rulebook.specs.declared.Verdict.{Verdict}
-use Rattle.rulebook.specs.declared.Verdict.TheVariants.{Taken, Refused}
+use Rattle.rulebook.specs.Results.{Verdict}
 use Rattle.rulebook.specs.declared.Judgement.{Judgement}
 use Rattle.rulebook.specs.Rules.{rules}
 use Rattle.rulebook.specs.State.{start_of, well_formed}
 use Rattle.rulebook.specs.Charges.{next_judge, charges}
 
 abbrev pub number_of : Verdict → ℕ
-number_of Taken = 0
-number_of (Refused r) = refusal_number r
+number_of (Ok _) = 0
+number_of (Err r) = refusal_number r
 
 -- a refusal hands the judge back as it came, and charges nothing
 unfoldable pub refused_of : Judge → Refusal → Judgement
-refused_of j r = record { judge = j; verdict = Refused r; charged = map (λ (q : Rule). false) rules }
+refused_of j r = record { judge = j; verdict = Err r; charged = map (λ (q : Rule). false) rules }
 
 unfoldable pub taken_of : Judge → Cycle → Judgement
-taken_of j c = record { judge = next_judge j c; verdict = Taken; charged = map (charges j c) rules }
+taken_of j c = record { judge = next_judge j c; verdict = Ok tt; charged = map (charges j c) rules }
 
 abbrev pub checked_of : Check → Judge → Cycle → Judgement
-checked_of Good j c = taken_of j c
-checked_of (Bad r) j c = refused_of j r
+checked_of (Ok _) j c = taken_of j c
+checked_of (Err r) j c = refused_of j r
 
 -- "A step of arbiter or judge: 10, 8, 4, 5, 6, 7, 11."
 unfoldable pub judge_of : Judge → Cycle → Judgement
@@ -58,10 +56,10 @@ charged_rules a = flagged a.charged rules
 -- the judge takes cycle after cycle
 pub data Judging : Judge → List Cycle → Judge → Type 0 where
   ends : {j : Judge} → Judging j [] j
-  takes : {j k : Judge} {c : Cycle} {l : List Cycle} → (judge_of j c).verdict ≡ Taken → Judging (judge_of j c).judge l k → Judging j (c ∷ l) k
+  takes : {j k : Judge} {c : Cycle} {l : List Cycle} → (judge_of j c).verdict ≡ Ok tt → Judging (judge_of j c).judge l k → Judging j (c ∷ l) k
 
 pub record Judged (n : ℕ) (trace : List Cycle) (j : Judge) : Type 0 where
-  pub begun : (start_of n).verdict ≡ Taken
+  pub begun : (start_of n).verdict ≡ Ok tt
   pub run : Judging (start_of n).judge trace j
 
 unfoldable pub charges_in : {j k : Judge} {l : List Cycle} → Judging j l k → List (List Rule)

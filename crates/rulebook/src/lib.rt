@@ -51,23 +51,17 @@ pub struct Judge {
     pub lost: [u32; 16],
 }
 
-#[derive(Clone, Copy)]
-pub enum Verdict {
-    Taken,
-    Refused(Refusal),
-}
-
 // The answer of a start: the judge stands beside the verdict, since no enum holds an array.
 #[derive(Clone, Copy)]
 pub struct Started {
     pub judge: Judge,
-    pub verdict: Verdict,
+    pub verdict: Result<(), Refusal>,
 }
 
 // The answer of a step: the new state, the verdict, and for each rule, in the order of the report, whether it is charged.
 #[derive(Clone, Copy)]
 pub struct Judgement {
     pub judge: Judge,
-    pub verdict: Verdict,
+    pub verdict: Result<(), Refusal>,
     pub charged: [bool; 21],
 }

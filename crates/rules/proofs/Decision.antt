@@ -5,12 +5,12 @@
 --   chosen_zero  == a decision with no request grants master 0
 --   chosen_below == the grant that follows is a master
 --   chosen_won   == a decision with a request grants the winner
+use Rattle.std.specs.Prelude.{Some}
 use Prim.Native.Nat.{ℕ, ◌<◌}
 use mathlib.Core.Path.{◌≡◌, refl}
 use mathlib.Core.Bool.{Bool, true, false, not}
 use native.Mathlib.Omega.{arith}
 use borrow.Author.Tests.{not-true}
-use Rattle.rules.specs.declared.Found.TheVariants.{At}
 use Rattle.rules.specs.declared.State.{State}
 use Rattle.rules.specs.declared.Inputs.{Inputs}
 use Rattle.rules.specs.declared.Seen.{Seen}
@@ -31,19 +31,19 @@ pub decides_settled : (s : State) (v : Seen) → decides s v ≡ true → settle
 unfolding decides
 decides_settled s v e = search (and_left, and_right)
 
-pub chosen_kept : (s : State) (x : Inputs) (w : ℕ) → chosen s x false ≡ At w → w ≡ s.g
+pub chosen_kept : (s : State) (x : Inputs) (w : ℕ) → chosen s x false ≡ Some w → w ≡ s.g
 unfolding chosen
 chosen_kept s x w e = cc
 
-pub chosen_zero : (s : State) (x : Inputs) (w : ℕ) → some_high x.hbusreq ≡ false → chosen s x true ≡ At w → w ≡ 0
+pub chosen_zero : (s : State) (x : Inputs) (w : ℕ) → some_high x.hbusreq ≡ false → chosen s x true ≡ Some w → w ≡ 0
 unfolding chosen
 chosen_zero s x w p e = let r = simp p at e in cc
 
-pub chosen_won : (s : State) (x : Inputs) (w : ℕ) → some_high x.hbusreq ≡ true → chosen s x true ≡ At w → winner s.n s.g x.hbusreq ≡ At w
+pub chosen_won : (s : State) (x : Inputs) (w : ℕ) → some_high x.hbusreq ≡ true → chosen s x true ≡ Some w → winner s.n s.g x.hbusreq ≡ Some w
 unfolding chosen
 chosen_won s x w p e = simp p at e
 
-pub chosen_below : (s : State) (x : Inputs) (d : Bool) (w : ℕ) → s.g < s.n → chosen s x d ≡ At w → w < s.n
+pub chosen_below : (s : State) (x : Inputs) (d : Bool) (w : ℕ) → s.g < s.n → chosen s x d ≡ Some w → w < s.n
 chosen_below s x false w h e = omega (arith, chosen_kept s x w e)
 chosen_below s x true w h e = go (some_high x.hbusreq) refl
   where

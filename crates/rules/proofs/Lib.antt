@@ -1,3 +1,4 @@
+pub mod Parts
 pub mod Choice
 pub mod Masks
 pub mod Flags

@@ -1,4 +1,5 @@
 -- The promises of specs/Promises.antt, each proved by the law of its name.
+use Rattle.std.specs.Prelude.{Err, None, Ok, Some}
 use mathlib.Core.Path.{◌≡◌, refl, sym, ◌∙◌, ap}
 use mathlib.Core.Logic.{inl, inr}
 use mathlib.Core.Bool.{Bool, true, false, and-false}
@@ -7,16 +8,11 @@ use borrow.Author.Tests.{le-leb, lt-leb}
 use lib.Dec.{leb}
 use Rattle.rules.specs.declared.Refusal.{Refusal}
 use Rattle.rules.specs.declared.Refusal.TheVariants as refusal
-use Rattle.rules.specs.declared.Check.{Check}
-use Rattle.rules.specs.declared.Check.TheVariants.{Good, Bad}
-use Rattle.rules.specs.declared.Found.{Found}
-use Rattle.rules.specs.declared.Found.TheVariants.{At, Nothing}
+use Rattle.rules.specs.Results.{Check, Found, Answer}
 use Rattle.rules.specs.declared.Phase.TheVariants.{Fresh}
 use Rattle.rules.specs.declared.State.{State}
 use Rattle.rules.specs.declared.Inputs.{Inputs}
 use Rattle.rules.specs.declared.Outputs.{Outputs}
-use Rattle.rules.specs.declared.Answer.{Answer}
-use Rattle.rules.specs.declared.Answer.TheVariants.{Next, Refused}
 use Rattle.rules.specs.Refusals.{number_of, answer_of, state_of, outputs_of}
 use Rattle.rules.specs.Codes.{most_cycles, burst_of}
 use Rattle.rules.specs.Valid.{inputs_check}
@@ -30,17 +26,17 @@ use Rattle.rules.proofs.Total.{never_refused}
 
 -- a step is taken, or refused with the state as it came
 data Outcome (s : State) (x : Inputs) : Type 0 where
-  takes : (s' : State) (o : Outputs) → step_of s x ≡ Next s' o → Outcome s x
-  refuses : (r : Refusal) → step_of s x ≡ Refused r s → Outcome s x
+  takes : (s' : State) (o : Outputs) → step_of s x ≡ Ok (s', o) → Outcome s x
+  refuses : (r : Refusal) → step_of s x ≡ Err (r, s) → Outcome s x
 
 outcome : (s : State) (x : Inputs) → Outcome s x
 unfolding step_of accepted
 outcome s x = go (well_formed s) (leb most_cycles s.count) (inputs_check s.n x) (chosen s x (decide s x)) refl refl refl refl
   where
     go : (a b : Bool) (c : Check) (f : Found) → well_formed s ≡ a → leb most_cycles s.count ≡ b → inputs_check s.n x ≡ c → chosen s x (decide s x) ≡ f → Outcome s x
-    go true false Good (At w) p q r t = takes (moved s x (decide s x) w) (shown s (seen s x) (decide s x)) (simp (p, q, r, t))
-    go true false Good Nothing p q r t = refuses refusal.Nobody (simp (p, q, r, t))
-    go true false (Bad e) f p q r t = refuses e (simp (p, q, r))
+    go true false (Ok _) (Some w) p q r t = takes (moved s x (decide s x) w) (shown s (seen s x) (decide s x)) (simp (p, q, r, t))
+    go true false (Ok _) None p q r t = refuses refusal.Nobody (simp (p, q, r, t))
+    go true false (Err e) f p q r t = refuses e (simp (p, q, r))
     go true true c f p q r t = refuses refusal.Full (simp (p, q))
     go false b c f p q r t = refuses refusal.State (simp p)
 
@@ -82,7 +78,7 @@ taken_only_then s x e = go (outcome s x)
 pub hands_back_by_number : HandsBackByNumber
 hands_back_by_number s x ne = go (outcome s x)
   where
-    go : Outcome s x → (state_of (step_of s x) ≡ s) × (outputs_of (step_of s x) ≡ outputs_of (Refused refusal.State s))
+    go : Outcome s x → (state_of (step_of s x) ≡ s) × (outputs_of (step_of s x) ≡ outputs_of (Err (refusal.State, s)))
     go (takes s' o q) = absurd (ne (ap answer_of q))
     go (refuses r q) = (ap state_of q, ap outputs_of q)
 

@@ -2,6 +2,7 @@
 --
 --   outputs_fit == no column of the outputs is too large
 --   valid_shown == 4, 5, 6 and 7 do not apply to the cycle
+use Rattle.std.specs.Prelude.{Ok}
 use Prim.Native.Nat.{◌^◌, ◌≤◌, ◌<◌}
 use mathlib.Core.Path.{◌≡◌}
 use mathlib.Core.Bool.{Bool, false}
@@ -9,7 +10,6 @@ use native.Mathlib.Omega.{arith}
 use borrow.Author.Tests.{le-ltb, lt-leb}
 use lib.Dec.{ltb}
 use lib.Pow.{pow-lt, pow_mono}
-use Rattle.rules.specs.declared.Check.TheVariants.{Good}
 use Rattle.rules.specs.declared.State.{State}
 use Rattle.rules.specs.declared.Inputs.{Inputs}
 use Rattle.rules.specs.Valid.{inputs_too_large, inputs_not_built, inputs_absent, outputs_too_large, inputs_check, cycle_check}
@@ -37,7 +37,7 @@ module _ (s : State) (x : Inputs) (d : Bool) (sound : WellFormed s) where
         small_flag (seen s x).request,
       )
 
-  pub valid_shown : inputs_check s.n x ≡ Good → cycle_check s.n (record { inputs = x; outputs = shown s (seen s x) d }) ≡ Good
+  pub valid_shown : inputs_check s.n x ≡ Ok tt → cycle_check s.n (record { inputs = x; outputs = shown s (seen s x) d }) ≡ Ok tt
   unfolding cycle_check inputs_check shown
   valid_shown good =
       let p = passed (inputs_too_large x) (inputs_not_built x) (inputs_absent s.n x) false good in

@@ -3,21 +3,19 @@
 --   Taken s x s' o == the facts of a step from s by x to s' that shows o
 --   taken          == a step that answers Next has them
 --   next_n, next_g, next_m, next_lock, next_granted, next_phase, next_count == the fields of s'
+use Rattle.std.specs.Prelude.{Err, None, Ok, Some}
 use Prim.Native.Nat.{ℕ, ◌+◌, ◌<◌}
-use mathlib.Core.Path.{◌≡◌, refl, ap}
+use mathlib.Core.Path.{◌≡◌, refl, ap, sym}
 use mathlib.Core.Bool.{Bool, true, false}
 use native.Mathlib.Omega.{arith}
 use borrow.Author.Tests.{leb-false}
 use lib.Dec.{leb}
 use Rattle.rules.specs.declared.Refusal.{Refusal}
-use Rattle.rules.specs.declared.Check.{Check}
-use Rattle.rules.specs.declared.Check.TheVariants.{Good, Bad}
-use Rattle.rules.specs.declared.Found.{Found}
-use Rattle.rules.specs.declared.Found.TheVariants.{At, Nothing}
+use Rattle.rules.proofs.Parts.{ok_parts}
+use Rattle.rules.specs.Results.{Check, Found, Answer}
 use Rattle.rules.specs.declared.State.{State}
 use Rattle.rules.specs.declared.Inputs.{Inputs}
 use Rattle.rules.specs.declared.Outputs.{Outputs}
-use Rattle.rules.specs.declared.Answer.TheVariants.{Next, Refused}
 use Rattle.rules.specs.Codes.{most_cycles}
 use Rattle.rules.specs.Valid.{inputs_check}
 use Rattle.rules.specs.State.{well_formed, WellFormed}
@@ -32,21 +30,21 @@ decide s x = decides s (seen s x)
 pub record Taken (s : State) (x : Inputs) (s' : State) (o : Outputs) : Type 0 where
   pub sound : WellFormed s
   pub room : s.count < most_cycles
-  pub good : inputs_check s.n x ≡ Good
+  pub good : inputs_check s.n x ≡ Ok tt
   pub w : ℕ
-  pub chose : chosen s x (decide s x) ≡ At w
+  pub chose : chosen s x (decide s x) ≡ Some w
   pub moves : s' ≡ moved s x (decide s x) w
   pub shows : o ≡ shown s (seen s x) (decide s x)
 
-pub taken : (s : State) (x : Inputs) (s' : State) (o : Outputs) → step_of s x ≡ Next s' o → Taken s x s' o
+pub taken : (s : State) (x : Inputs) (s' : State) (o : Outputs) → step_of s x ≡ Ok (s', o) → Taken s x s' o
 unfolding step_of accepted
 taken s x s' o e = go (well_formed s) (leb most_cycles s.count) (inputs_check s.n x) (chosen s x (decide s x)) refl refl refl refl e
   where
-    never : (r : Refusal) (t : State) → Refused r t ≡ Next s' o → ⊥
+    never : (r : Refusal) (t : State) → ◌≡◌ {A = Answer} (Err (r, t)) (Ok (s', o)) → ⊥
     never r t q = let z : ◌≡◌ {A = ℕ} 0 1 = cc in omega arith
 
-    go : (a b : Bool) (c : Check) (f : Found) → well_formed s ≡ a → leb most_cycles s.count ≡ b → inputs_check s.n x ≡ c → chosen s x (decide s x) ≡ f → step_of s x ≡ Next s' o → Taken s x s' o
-    go true false Good (At w) p q r t u =
+    go : (a b : Bool) (c : Check) (f : Found) → well_formed s ≡ a → leb most_cycles s.count ≡ b → inputs_check s.n x ≡ c → chosen s x (decide s x) ≡ f → step_of s x ≡ Ok (s', o) → Taken s x s' o
+    go true false (Ok _) (Some w) p q r t u =
         let v = simp (p, q, r, t) at u in
         record {
           sound = facts_of s p;
@@ -54,11 +52,11 @@ taken s x s' o e = go (well_formed s) (leb most_cycles s.count) (inputs_check s.
           good = r;
           w = w;
           chose = t;
-          moves = cc;
-          shows = cc;
+          moves = sym (ok_parts v).0;
+          shows = sym (ok_parts v).1;
         }
-    go true false Good Nothing p q r t u = absurd (never _ _ (simp (p, q, r, t) at u))
-    go true false (Bad f) h p q r t u = absurd (never _ _ (simp (p, q, r) at u))
+    go true false (Ok _) None p q r t u = absurd (never _ _ (simp (p, q, r, t) at u))
+    go true false (Err f) h p q r t u = absurd (never _ _ (simp (p, q, r) at u))
     go true true c f p q r t u = absurd (never _ _ (simp (p, q) at u))
     go false b c f p q r t u = absurd (never _ _ (simp p at u))
 

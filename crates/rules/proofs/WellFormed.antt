@@ -5,6 +5,7 @@
 --   test_of        == what has the facts passes the test
 --   reset_is       == a reset that is not refused gives the reset state, for n from 2 to 16
 --   reset_sound    == the reset state is well formed
+use Rattle.std.specs.Prelude.{Ok}
 use Prim.Native.Nat.{ℕ, ◌≤◌}
 use mathlib.Core.Path.{◌≡◌, refl, sym}
 use mathlib.Core.Bool.{Bool, true, false, ◌||◌, false≢true}
@@ -12,7 +13,6 @@ use native.Mathlib.Omega.{arith}
 use borrow.Author.Tests.{ltb-true, leb-true, eqb-true, lt-ltb, le-leb, eq-eqb}
 use lib.Dec.{eqb, ltb, leb}
 use Rattle.rules.specs.declared.State.{State}
-use Rattle.rules.specs.declared.Start.TheVariants.{Ready}
 use Rattle.rules.specs.State.{masters_ok, reset_state, reset_of, phase_ok, well_formed, WellFormed}
 use Rattle.rules.proofs.Choice.{and_left, and_right, and_both}
 
@@ -71,7 +71,7 @@ pub record Began (n : ℕ) (s : State) : Type 0 where
   pub many : n ≤ 16
   pub is : s ≡ reset_state n
 
-pub reset_is : (n : ℕ) (s : State) → reset_of n ≡ Ready s → Began n s
+pub reset_is : (n : ℕ) (s : State) → reset_of n ≡ Ok s → Began n s
 unfolding reset_of
 reset_is n s e = go (masters_ok n) refl
   where
@@ -86,7 +86,7 @@ reset_is n s e = go (masters_ok n) refl
     go false p = let z : ◌≡◌ {A = ℕ} 0 1 = (let f = simp p at e in cc) in absurd (omega arith)
 
 -- n from 2 to 16 is never refused
-pub reset_taken : (n : ℕ) → 2 ≤ n → n ≤ 16 → reset_of n ≡ Ready (reset_state n)
+pub reset_taken : (n : ℕ) → 2 ≤ n → n ≤ 16 → reset_of n ≡ Ok (reset_state n)
 unfolding reset_of
 reset_taken n few many = rw (masters_ok_lem n few many)
 

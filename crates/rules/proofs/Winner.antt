@@ -5,21 +5,21 @@
 --   winner_high  == the winner requests
 --   winner_won   == where i requests there is a winner, and a winner other than i brings i's turn nearer
 --   turns n g i  == how many decisions i can still lose with the grant at g
+use Rattle.std.specs.Prelude.{None, Some}
 use Prim.Native.Nat.{ℕ, zero, suc, ◌+◌, ◌-◌, ◌≤◌, ◌<◌}
 use mathlib.Core.Path.{◌≡◌, refl, ◌∙◌, subst}
 use mathlib.Core.Bool.{Bool, true, false}
 use native.Mathlib.Omega.{arith}
-use Rattle.rules.specs.declared.Found.TheVariants.{At, Nothing}
 use Rattle.rules.specs.Masks.{high}
 use Rattle.rules.specs.Winner.{next, walk, winner}
 use Rattle.rules.proofs.Choice.{differ}
 use Rattle.rules.proofs.Round.{gap, gap_below, gap_self, gap_next, gap_through, next_below}
 
-pub walk_none : (n m i : ℕ) → walk n m 0 i ≡ Nothing
+pub walk_none : (n m i : ℕ) → walk n m 0 i ≡ None
 unfolding walk
 walk_none n m i = refl
 
-pub walk_hit : (n m k i : ℕ) → 0 < k → high m i ≡ true → walk n m k i ≡ At i
+pub walk_hit : (n m k i : ℕ) → 0 < k → high m i ≡ true → walk n m k i ≡ Some i
 unfolding walk
 walk_hit n m zero i h e = absurd (omega arith)
 walk_hit n m (suc k) i h e = rw e
@@ -36,25 +36,25 @@ pub record Ended (n m w : ℕ) : Type 0 where
   pub below : w < n
   pub requests : high m w ≡ true
 
-pub walk_ended : (n m k j w : ℕ) → j < n → walk n m k j ≡ At w → Ended n m w
+pub walk_ended : (n m k j w : ℕ) → j < n → walk n m k j ≡ Some w → Ended n m w
 unfolding walk
 walk_ended n m zero j w h e = let z : ◌≡◌ {A = ℕ} 0 1 = cc in absurd (omega arith)
 walk_ended n m (suc k) j w h e = go (high m j) refl (λ q. walk_ended n m k (next n j) w (next_below n j (omega arith)) q)
   where
-    go : (t : Bool) → high m j ≡ t → (walk n m k (next n j) ≡ At w → Ended n m w) → Ended n m w
+    go : (t : Bool) → high m j ≡ t → (walk n m k (next n j) ≡ Some w → Ended n m w) → Ended n m w
     go true p later =
         let q : j ≡ w = (let r = simp p at e in cc) in
         record { below = omega arith; requests = subst (λ (z : ℕ). high m z ≡ true) q p }
     go false p later = later (simp p at e)
 
-pub winner_ended : (n g m w : ℕ) → 0 < n → winner n g m ≡ At w → Ended n m w
+pub winner_ended : (n g m w : ℕ) → 0 < n → winner n g m ≡ Some w → Ended n m w
 unfolding winner
 winner_ended n g m w h e = walk_ended n m n (next n g) w (next_below n g h) e
 
 -- where i requests and lies ahead, the walk ends at a requester that is no further than i
 pub record Met (n m k j i : ℕ) : Type 0 where
   pub at : ℕ
-  pub found : walk n m k j ≡ At at
+  pub found : walk n m k j ≡ Some at
   pub ended : Ended n m at
   pub near : gap n j at ≤ gap n j i
 
@@ -99,7 +99,7 @@ turns_other n g i hg hi ne = omega (arith, gap_next n g i hg hi ne, gap_below n 
 
 pub record Won (n g m i : ℕ) : Type 0 where
   pub at : ℕ
-  pub found : winner n g m ≡ At at
+  pub found : winner n g m ≡ Some at
   pub ended : Ended n m at
   pub nearer : (at ≡ i → ⊥) → turns n at i < turns n g i
 

@@ -7,15 +7,12 @@
 --   cases k  == the cases, those of a step at the count k
 --   wanted k == what the page says of each
 --   table    == the two agree (proofs/Cases.antt)
-use Rattle.std.specs.Prelude.{ℕ, ◌+◌, Bool, true, false, List, [], ◌∷◌}
+use Rattle.std.specs.Prelude.{ℕ, ◌+◌, Bool, true, false, List, [], ◌∷◌, Err, Ok}
 use Rattle.rules.specs.declared.Phase.{Phase}
 use Rattle.rules.specs.declared.Phase.TheVariants.{Fresh, Fixed, Done}
 use Rattle.rules.specs.declared.State.{State}
 use Rattle.rules.specs.declared.Inputs.{Inputs}
-use Rattle.rules.specs.declared.Answer.{Answer}
-use Rattle.rules.specs.declared.Answer.TheVariants.{Next, Refused}
-use Rattle.rules.specs.declared.Start.{Start}
-use Rattle.rules.specs.declared.Start.TheVariants.{Ready, Refused as Unready}
+use Rattle.rules.specs.Results.{Answer, Start}
 use Rattle.rules.specs.Refusals.{number_of}
 use Rattle.rules.specs.State.{reset_of, reset_state}
 use Rattle.rules.specs.Step.{step_of}
@@ -31,12 +28,12 @@ pub data Look : Type 0 where
   refused : ℕ → Look
 
 abbrev look_at : Answer → Look
-look_at (Next s o) = after o.decide s
-look_at (Refused r s) = refused (number_of r)
+look_at (Ok (s, o)) = after o.decide s
+look_at (Err (r, s)) = refused (number_of r)
 
 abbrev look_on : Start → Look
-look_on (Ready s) = ready s
-look_on (Unready r) = refused (number_of r)
+look_on (Ok s) = ready s
+look_on (Err r) = refused (number_of r)
 
 unfoldable pub look : Case → Look
 look (cycle s x) = look_at (step_of s x)

@@ -7,13 +7,12 @@
 --   found c, said c == what the definitions give of such a cycle, and what is said here
 --   cycles k     == the cycles, at the count k
 --   table        == found and said agree (proofs/Cycles.antt)
-use Rattle.std.specs.Prelude.{ℕ, ◌+◌, true, false, List, [], ◌∷◌}
+use Rattle.std.specs.Prelude.{ℕ, ◌+◌, true, false, List, [], ◌∷◌, Ok}
 use Rattle.rules.specs.declared.Phase.TheVariants.{Fresh, Fixed, Open, Done}
 use Rattle.rules.specs.declared.State.{State}
 use Rattle.rules.specs.declared.Inputs.{Inputs}
 use Rattle.rules.specs.declared.Outputs.{Outputs}
-use Rattle.rules.specs.declared.Answer.{Answer}
-use Rattle.rules.specs.declared.Answer.TheVariants.{Next}
+use Rattle.rules.specs.Results.{Answer}
 use Rattle.rules.specs.Step.{step_of}
 use Rattle.rules.specs.Cases.{three, lines}
 
@@ -24,7 +23,7 @@ abbrev pub found : Told → Answer
 found (told s x o t) = step_of s x
 
 abbrev pub said : Told → Answer
-said (told s x o t) = Next t o
+said (told s x o t) = Ok (t, o)
 
 -- HGRANT, HMASTER, HMASTLOCK, DECIDE, GRANTED, BUSREQ
 abbrev drives : ℕ → ℕ → ℕ → ℕ → ℕ → ℕ → Outputs

@@ -4,9 +4,7 @@
 --   Accepted s x      == nothing is refused, and the step is the one of the page
 --   NumberOf s x      == the number that the step answers, test by test
 --   ProtectedKind s x == the burst is of a protected kind, by its code
-use Rattle.std.specs.Prelude.{◌≤◌, ◌<◌, ◌≡◌, ◌⊎◌, Bool, true, false}
-use Rattle.rules.specs.declared.Check.TheVariants.{Good}
-use Rattle.rules.specs.declared.Found.TheVariants.{At, Nothing}
+use Rattle.std.specs.Prelude.{◌≤◌, ◌<◌, ◌≡◌, ◌⊎◌, Bool, true, false, None, Ok, Some}
 use Rattle.rules.specs.declared.Phase.TheVariants.{Fresh}
 use Rattle.rules.specs.declared.State.{State}
 use Rattle.rules.specs.declared.Inputs.{Inputs}
@@ -22,9 +20,9 @@ use Rattle.rules.specs.Step.{chosen, moved, shown, answered, step_of}
 pub record Accepted (s : State) (x : Inputs) : Type 0 where
   pub sound : well_formed s ≡ true
   pub room : s.count < most_cycles
-  pub good : inputs_check s.n x ≡ Good
+  pub good : inputs_check s.n x ≡ Ok tt
   pub shows : outputs_of (step_of s x) ≡ shown s (seen s x) (decides s (seen s x))
-  pub grants : chosen s x (decides s (seen s x)) ≡ At (state_of (step_of s x)).g
+  pub grants : chosen s x (decides s (seen s x)) ≡ Some (state_of (step_of s x)).g
   pub moves : state_of (step_of s x) ≡ moved s x (decides s (seen s x)) (state_of (step_of s x)).g
 
 abbrev pub TakenOnlyThen : Type 0
@@ -53,7 +51,7 @@ FirstTestAnswers = (s : State) (x : Inputs) → NumberOf s x
 
 -- 11, "a decision with a request high finds no master": what such a decision would answer. (It never comes: FirstTestAnswers has a 0.)
 abbrev pub ElevenForNobody : Type 0
-ElevenForNobody = (s : State) (x : Inputs) (d : Bool) → (answer_of (answered Nothing d s x) ≡ 11) × (state_of (answered Nothing d s x) ≡ s)
+ElevenForNobody = (s : State) (x : Inputs) (d : Bool) → (answer_of (answered None d s x) ≡ 11) × (state_of (answered None d s x) ≡ s)
 
 -- "Protected kind" means INCR4, or INCR while HMASTLOCK is high: HBURST 3, or 1
 abbrev pub ProtectedKind : State → Inputs → Type 0

@@ -6,17 +6,12 @@
 --   outputs_of a     == what a step that is taken shows; every column is 0 where it is refused
 --   reset_answer a       == the number that a reset answers: 0, or that of its refusal
 --   first_of v u a o == of the tests 4, 5, 6 and 7, in this order, the first that applies
-use Rattle.std.specs.Prelude.{ℕ, Bool, cond}
+use Rattle.std.specs.Prelude.{ℕ, Bool, cond, Err, Ok}
 use Rattle.rules.specs.declared.Refusal.{Refusal}
 use Rattle.rules.specs.declared.Refusal.TheVariants as refusal
-use Rattle.rules.specs.declared.Check.{Check}
-use Rattle.rules.specs.declared.Check.TheVariants.{Good, Bad}
+use Rattle.rules.specs.Results.{Check, Start, Answer}
 use Rattle.rules.specs.declared.State.{State}
 use Rattle.rules.specs.declared.Outputs.{Outputs}
-use Rattle.rules.specs.declared.Start.{Start}
-use Rattle.rules.specs.declared.Start.TheVariants.{Ready, Refused as Unready}
-use Rattle.rules.specs.declared.Answer.{Answer}
-use Rattle.rules.specs.declared.Answer.TheVariants.{Next, Refused}
 
 abbrev pub number_of : Refusal → ℕ
 -- n is not 2 to 16
@@ -49,26 +44,26 @@ number_of refusal.Time = 13
 number_of refusal.Variable = 14
 
 abbrev pub answer_of : Answer → ℕ
-answer_of (Next s o) = 0
-answer_of (Refused r s) = number_of r
+answer_of (Ok (s, o)) = 0
+answer_of (Err (r, s)) = number_of r
 
 abbrev pub state_of : Answer → State
-state_of (Next s o) = s
-state_of (Refused r s) = s
+state_of (Ok (s, o)) = s
+state_of (Err (r, s)) = s
 
 abbrev pub outputs_of : Answer → Outputs
-outputs_of (Next s o) = o
-outputs_of (Refused r s) =
+outputs_of (Ok (s, o)) = o
+outputs_of (Err (r, s)) =
     record { hgrant = 0; hmaster = 0; hmastlock = 0; decide = 0; granted = 0; busreq = 0 }
 
 abbrev pub reset_answer : Start → ℕ
-reset_answer (Ready s) = 0
-reset_answer (Unready r) = number_of r
+reset_answer (Ok s) = 0
+reset_answer (Err r) = number_of r
 
 -- the flags say whether 4, 5, 6 and 7 apply
 abbrev pub first_of : Bool → Bool → Bool → Bool → Check
 first_of value unbuilt absent owner =
-    cond value (Bad refusal.Value)
-    (cond unbuilt (Bad refusal.NotBuilt)
-    (cond absent (Bad refusal.Absent)
-    (cond owner (Bad refusal.Owner) Good)))
+    cond value (Err refusal.Value)
+    (cond unbuilt (Err refusal.NotBuilt)
+    (cond absent (Err refusal.Absent)
+    (cond owner (Err refusal.Owner) (Ok tt))))

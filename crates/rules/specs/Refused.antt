@@ -10,15 +10,14 @@
 --   wanted a           == what the page says: the number, and of a refused step the state as it came
 --   named, numbers     == the refusals, and their numbers
 --   table, all_numbers == they agree (proofs/Refused.antt)
-use Rattle.std.specs.Prelude.{ℕ, Bool, true, false, List, [], ◌∷◌}
+use Rattle.std.specs.Prelude.{ℕ, Bool, true, false, List, [], ◌∷◌, Err, Ok}
 use Rattle.rules.specs.declared.Refusal.{Refusal}
 use Rattle.rules.specs.declared.Refusal.TheVariants as refusal
 use Rattle.rules.specs.declared.Phase.{Phase}
 use Rattle.rules.specs.declared.Phase.TheVariants.{Fresh, Fixed, Open, Done}
 use Rattle.rules.specs.declared.State.{State}
 use Rattle.rules.specs.declared.Inputs.{Inputs}
-use Rattle.rules.specs.declared.Start.{Start}
-use Rattle.rules.specs.declared.Start.TheVariants.{Ready, Refused as Unready}
+use Rattle.rules.specs.Results.{Start}
 use Rattle.rules.specs.Refusals.{answer_of, state_of, reset_answer}
 use Rattle.rules.specs.State.{reset_of}
 use Rattle.rules.specs.Step.{step_of}
@@ -38,8 +37,8 @@ pub data Heard : Type 0 where
   number : ℕ → Heard
 
 abbrev heard_of : Start → Heard
-heard_of (Ready s) = back (reset_answer (Ready s)) s
-heard_of (Unready r) = number (reset_answer (Unready r))
+heard_of (Ok s) = back (reset_answer (Ok s)) s
+heard_of (Err r) = number (reset_answer (Err r))
 
 unfoldable pub heard : Asked → Heard
 heard (declines k n) = heard_of (reset_of n)

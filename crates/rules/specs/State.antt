@@ -5,13 +5,12 @@
 --   phase_ok p granted locked == the phase fits GRANTED and HMASTLOCK
 --   well_formed s == s is well formed
 --   WellFormed s  == the same, as facts
-use Rattle.std.specs.Prelude.{ℕ, ◌-◌, ◌≤◌, ◌<◌, ◌≡◌, Bool, true, false, not, ◌&&◌, ◌||◌, cond, eqb, ltb, leb}
+use Rattle.std.specs.Prelude.{ℕ, ◌-◌, ◌≤◌, ◌<◌, ◌≡◌, Bool, true, false, not, ◌&&◌, ◌||◌, cond, eqb, ltb, leb, Err, Ok}
 use Rattle.rules.specs.declared.Refusal.TheVariants.{Masters}
 use Rattle.rules.specs.declared.Phase.{Phase}
 use Rattle.rules.specs.declared.Phase.TheVariants.{Fresh, Fixed, Open, Done}
 use Rattle.rules.specs.declared.State.{State}
-use Rattle.rules.specs.declared.Start.{Start}
-use Rattle.rules.specs.declared.Start.TheVariants.{Ready, Refused}
+use Rattle.rules.specs.Results.{Start}
 use Rattle.rules.specs.Codes.{fewest_masters, most_masters, most_cycles, longest_burst}
 
 -- n from 2 to 16
@@ -24,7 +23,7 @@ reset_state n =
     record { n = n; g = 0; m = 0; hmastlock = false; granted = false; phase = Fresh; count = 0 }
 
 unfoldable pub reset_of : ℕ → Start
-reset_of n = cond (masters_ok n) (Ready (reset_state n)) (Refused Masters)
+reset_of n = cond (masters_ok n) (Ok (reset_state n)) (Err Masters)
 
 -- k from 1 to 3; Fresh or Done when GRANTED is high; HMASTLOCK high when Open
 unfoldable pub phase_ok : Phase → Bool → Bool → Bool

@@ -9,18 +9,13 @@
 --   accepted s x     == the answer to inputs that are valid
 --   checked k s x    == the answer by what the tests 4, 5 and 6 found
 --   step_of s x      == the answer of a step
-use Rattle.std.specs.Prelude.{ℕ, ◌+◌, Bool, true, false, not, ◌||◌, cond, eqb, leb}
+use Rattle.std.specs.Prelude.{ℕ, ◌+◌, Bool, true, false, not, ◌||◌, cond, eqb, leb, Err, None, Ok, Some}
 use Rattle.rules.specs.declared.Refusal.TheVariants as refusal
-use Rattle.rules.specs.declared.Check.{Check}
-use Rattle.rules.specs.declared.Check.TheVariants.{Good, Bad}
-use Rattle.rules.specs.declared.Found.{Found}
-use Rattle.rules.specs.declared.Found.TheVariants.{At, Nothing}
+use Rattle.rules.specs.Results.{Check, Found, Answer}
 use Rattle.rules.specs.declared.State.{State}
 use Rattle.rules.specs.declared.Inputs.{Inputs}
 use Rattle.rules.specs.declared.Outputs.{Outputs}
 use Rattle.rules.specs.declared.Seen.{Seen}
-use Rattle.rules.specs.declared.Answer.{Answer}
-use Rattle.rules.specs.declared.Answer.TheVariants.{Next, Refused}
 use Rattle.rules.specs.Codes.{most_cycles}
 use Rattle.rules.specs.Masks.{high, some_high, single}
 use Rattle.rules.specs.Valid.{inputs_check}
@@ -32,7 +27,7 @@ use Rattle.rules.specs.Phase.{seen, handover, phase_after, decides}
 -- Nothing else changes g.
 unfoldable pub chosen : State → Inputs → Bool → Found
 chosen s x d =
-    cond d (cond (some_high x.hbusreq) (winner s.n s.g x.hbusreq) (At 0)) (At s.g)
+    cond d (cond (some_high x.hbusreq) (winner s.n s.g x.hbusreq) (Some 0)) (Some s.g)
 
 -- After a cycle with DECIDE: with a request, GRANTED goes high; with none, it goes high exactly if m is not 0.
 -- After a handover GRANTED goes low.
@@ -79,8 +74,8 @@ shown s v d =
 
 -- 11 where the choice finds no master
 abbrev pub answered : Found → Bool → State → Inputs → Answer
-answered Nothing d s x = Refused refusal.Nobody s
-answered (At w) d s x = Next (moved s x d w) (shown s (seen s x) d)
+answered None d s x = Err (refusal.Nobody, s)
+answered (Some w) d s x = Ok (moved s x d w, shown s (seen s x) d)
 
 unfoldable pub accepted : State → Inputs → Answer
 accepted s x =
@@ -88,11 +83,11 @@ accepted s x =
 
 -- 4, 5, 6
 abbrev pub checked : Check → State → Inputs → Answer
-checked Good s x = accepted s x
-checked (Bad r) s x = Refused r s
+checked (Ok _) s x = accepted s x
+checked (Err r) s x = Err (r, s)
 
 -- "A step of arbiter or judge: 10, 8, 4, 5, 6, 7, 11." A stimulus has no HMASTER, so 7 is never given here.
 unfoldable pub step_of : State → Inputs → Answer
 step_of s x =
-    cond (not (well_formed s)) (Refused refusal.State s)
-    (cond (leb most_cycles s.count) (Refused refusal.Full s) (checked (inputs_check s.n x) s x))
+    cond (not (well_formed s)) (Err (refusal.State, s))
+    (cond (leb most_cycles s.count) (Err (refusal.Full, s)) (checked (inputs_check s.n x) s x))

@@ -11,7 +11,7 @@ use Rattle.std.specs.Prelude.{ℕ, Bool, false, ◌||◌, eqb, ltb, leb}
 use Rattle.rules.specs.declared.Inputs.{Inputs}
 use Rattle.rules.specs.declared.Outputs.{Outputs}
 use Rattle.rules.specs.declared.Cycle.{Cycle}
-use Rattle.rules.specs.declared.Check.{Check}
+use Rattle.rules.specs.Results.{Check}
 use Rattle.rules.specs.Refusals.{first_of}
 use Rattle.rules.specs.Codes.{burst_of, no_code, not_built}
 use Rattle.rules.specs.Masks.{names_absent}

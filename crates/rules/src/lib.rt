@@ -20,13 +20,6 @@ pub enum Refusal {
     Variable,
 }
 
-// What a test finds: nothing wrong, or the first refusal that applies.
-#[derive(Clone, Copy)]
-pub enum Check {
-    Good,
-    Bad(Refusal),
-}
-
 // The sorts of burst codes. A fixed burst carries its number of beats.
 #[derive(Clone, Copy)]
 pub enum Burst {
@@ -94,25 +87,4 @@ pub struct Seen {
     pub burst: Burst,
     pub request: bool,
     pub lock: bool,
-}
-
-// Where a walk round the masters ends.
-#[derive(Clone, Copy)]
-pub enum Found {
-    At(u32),
-    Nothing,
-}
-
-// The answer of reset.
-#[derive(Clone, Copy)]
-pub enum Start {
-    Ready(State),
-    Refused(Refusal),
-}
-
-// The answer of a step: the state after the cycle and what was shown in it, or the state as it came.
-#[derive(Clone, Copy)]
-pub enum Answer {
-    Next(State, Outputs),
-    Refused(Refusal, State),
 }

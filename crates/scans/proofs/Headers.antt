@@ -3,6 +3,7 @@
 --   closing_some, opening_short == how long the two texts are, as far as the calls ask
 --   one_digit_lem, two_digits_lem, no_number == the three ends after the opening
 --   opened, not_opened == the two ends at the opening
+use Rattle.std.specs.Prelude.{Err}
 use Prim.Native.Nat.{ℕ, ◌+◌, ◌-◌, ◌*◌, ◌≤◌, ◌<◌}
 use mathlib.Core.Path.{◌≡◌}
 use mathlib.Core.Bool.{Bool, true, false, not, ◌&&◌}
@@ -11,8 +12,7 @@ use native.Mathlib.Omega.{arith}
 use lib.Dec.{eqb, lit≤}
 use lib.ListN.{length, get_or, drop}
 use Rattle.rules.specs.declared.Refusal.TheVariants.{Dump}
-use Rattle.formats.specs.declared.HeaderRead.{HeaderRead}
-use Rattle.formats.specs.declared.HeaderRead.TheVariants.{Refused}
+use Rattle.formats.specs.Results.{HeaderRead}
 use Rattle.formats.specs.Headers.{is_decimal, ranged}
 use Rattle.formats.specs.Texts.{bytes}
 use Rattle.waves.specs.Header.{opening, closing, begins, one_digit, two_digits, masters_in, read_dump_header_of}
@@ -49,7 +49,7 @@ module _ (s : List ℕ) (p a b : ℕ) (k : List ℕ) (first second after after' 
       unfolding masters_in
       two_digits_lem tens ones r t et eo h = simp (one, no, two, t) (rw (← ek, ← ea, ← eb, ← et, ← eo) h)
 
-      pub no_number : (first && not (eqb a 48) && second && after') ≡ false → Refused Dump ≡ masters_in s p
+      pub no_number : (first && not (eqb a 48) && second && after') ≡ false → Err Dump ≡ masters_in s p
       unfolding masters_in
       no_number t = simp (one, no, two, t)
 
@@ -58,6 +58,6 @@ module _ (s o : List ℕ) (found : Bool) (eo : o ≡ opening) (ef : found ≡ be
   unfolding read_dump_header_of
   opened r t h = rw (← eo, ← ef, t) h
 
-  pub not_opened : found ≡ false → Refused Dump ≡ read_dump_header_of s
+  pub not_opened : found ≡ false → Err Dump ≡ read_dump_header_of s
   unfolding read_dump_header_of
   not_opened t = rw (← eo, ← ef, t)

@@ -6,8 +6,7 @@ use mathlib.Core.List.{List}
 use contract.Lifetimes.{Lfts}
 use denote.Ref.{Bor}
 use Rattle.rules.specs.declared.Cycle.{Cycle}
-use Rattle.formats.specs.declared.HeaderRead.{HeaderRead}
-use Rattle.formats.specs.declared.TraceRead.{TraceRead}
+use Rattle.formats.specs.Results.{HeaderRead, TraceRead}
 use Rattle.scans.proofs.header.read_dump_header.Reads as read_header
 use Rattle.scans.proofs.read_step.Reads as read_step
 

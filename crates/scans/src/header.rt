@@ -2,11 +2,10 @@
 ghost use Rattle.std.specs.Prelude.{◌≡◌, ◌≤◌};
 ghost use Rattle.waves.specs.Header.{opening as opening_text, closing as closing_text, masters_in, read_dump_header_of};
 
-use formats::HeaderRead;
 use rules::Refusal;
 
 // What stands after the opening: n in one digit, or in two with no leading zero, and the closing.
-fn masters_in(s: &[u8], p: usize, closing: &[u8]) -> HeaderRead
+fn masters_in(s: &[u8], p: usize, closing: &[u8]) -> Result<(u32, usize), Refusal>
     requires { (p ≤ 64) × (closing.now ≡ closing_text) }
     ensures { result ≡ masters_in s.now p }
 {
@@ -24,22 +23,22 @@ fn masters_in(s: &[u8], p: usize, closing: &[u8]) -> HeaderRead
     if first & !(a == 48) & second & after_two {
         return headers::ranged(tens * 10 + ones, p + 2 + closing.len());
     }
-    HeaderRead::Refused(Refusal::Dump)
+    Err(Refusal::Dump)
 }
 
-fn read_after(s: &[u8], opening: &[u8], closing: &[u8]) -> HeaderRead
+fn read_after(s: &[u8], opening: &[u8], closing: &[u8]) -> Result<(u32, usize), Refusal>
     requires { (opening.now ≡ opening_text) × (closing.now ≡ closing_text) }
     ensures { result ≡ read_dump_header_of s.now }
 {
     if crate::bytes::begins(s, opening) {
         masters_in(s, opening.len(), closing)
     } else {
-        HeaderRead::Refused(Refusal::Dump)
+        Err(Refusal::Dump)
     }
 }
 
 // The header of a dump at the start of the input: 12, 1.
-pub fn read_dump_header(s: &[u8]) -> HeaderRead
+pub fn read_dump_header(s: &[u8]) -> Result<(u32, usize), Refusal>
     ensures { result ≡ read_dump_header_of s.now }
 {
     read_after(

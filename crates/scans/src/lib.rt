@@ -9,15 +9,13 @@ mod walk;
 
 ghost use Rattle.std.specs.Prelude.{◌≡◌, cond, ◌+◌, ◌≤◌, length, drop};
 ghost use Rattle.rules.specs.declared.Refusal.TheVariants.{Shape};
-ghost use Rattle.formats.specs.declared.TraceRead.TheVariants.{Refused};
 ghost use Rattle.formats.specs.Lines.{line_check};
 ghost use Rattle.waves.specs.Steps.{time_line};
 ghost use Rattle.waves.specs.Header.{begins};
 ghost use Rattle.waves.specs.Reading.{step_text, step_shaped, step_cycle, step_checked, step_in, read_step_of};
 
-use formats::TraceRead;
 pub use header::read_dump_header;
-use rules::{Check, Cycle, Refusal};
+use rules::{Cycle, Refusal};
 
 // The position after the step at p: the next line that begins with `#`, or the end of what is looked at.
 fn step_end(s: &[u8], p: usize) -> usize
@@ -41,12 +39,12 @@ fn step_end(s: &[u8], p: usize) -> usize
 }
 
 // The last tests: 4, 5, 6, 7.
-fn checked(n: u32, c: Cycle, next: usize) -> TraceRead
+fn checked(n: u32, c: Cycle, next: usize) -> Result<Option<(Cycle, usize)>, Refusal>
     ensures { result ≡ step_checked (line_check n c) c next }
 {
     match lines::check_line(n, c) {
-        Check::Good => TraceRead::Line(c, next),
-        Check::Bad(r) => TraceRead::Refused(r),
+        Ok(()) => Ok(Some((c, next))),
+        Err(r) => Err(r),
     }
 }
 
@@ -59,51 +57,63 @@ fn shape_in(
     next: usize,
     line: bool,
     size: usize,
-) -> TraceRead
+) -> Result<Option<(Cycle, usize)>, Refusal>
     requires { (line ≡ begins s.now (time_line t)) × (size ≡ length (time_line t)) }
-    ensures { result ≡ cond (step_shaped t prev s.now) (step_checked (line_check n (step_cycle t prev s.now)) (step_cycle t prev s.now) next) (Refused Shape) }
+    ensures { result ≡ cond (step_shaped t prev s.now) (step_checked (line_check n (step_cycle t prev s.now)) (step_cycle t prev s.now) next) (Err Shape) }
 {
     if !line {
-        return TraceRead::Refused(Refusal::Shape);
+        return Err(Refusal::Shape);
     }
     let found = walk::changes_in(t == 0, prev, s, size);
     if found.shaped {
         checked(n, found.cycle, next)
     } else {
-        TraceRead::Refused(Refusal::Shape)
+        Err(Refusal::Shape)
     }
 }
 
 // A step's text: 13, 8, 14, and the rest.
-fn step_in(n: u32, t: u32, prev: Cycle, s: &[u8], next: usize) -> TraceRead
+fn step_in(
+    n: u32,
+    t: u32,
+    prev: Cycle,
+    s: &[u8],
+    next: usize,
+) -> Result<Option<(Cycle, usize)>, Refusal>
     ensures { result ≡ step_in n t prev s.now next }
 {
     let has = time::has_time(s);
     let time = time::time_in(t, s);
     if has & !time.right {
-        return TraceRead::Refused(Refusal::Time);
+        return Err(Refusal::Time);
     }
     if (1000000 <= t) & time.right {
-        return TraceRead::Refused(Refusal::Full);
+        return Err(Refusal::Full);
     }
     if codes::unknown_in(s) {
-        return TraceRead::Refused(Refusal::Variable);
+        return Err(Refusal::Variable);
     }
     shape_in(n, t, prev, s, next, time.line, time.size)
 }
 
 // The step of cycle t, after the cycle prev, at a position: 1, 13, 8, 14, 3, 4, 5, 6, 7.
-pub fn read_step(n: u32, t: u32, prev: Cycle, s: &[u8], at: usize) -> TraceRead
+pub fn read_step(
+    n: u32,
+    t: u32,
+    prev: Cycle,
+    s: &[u8],
+    at: usize,
+) -> Result<Option<(Cycle, usize)>, Refusal>
     ensures { result ≡ read_step_of n t prev s.now at }
 {
     if !fields::masters_ok(n) {
-        return TraceRead::Refused(Refusal::Masters);
+        return Err(Refusal::Masters);
     }
     if s.len() < at {
-        return TraceRead::Refused(Refusal::Shape);
+        return Err(Refusal::Shape);
     }
     if at == s.len() {
-        return TraceRead::NoMore;
+        return Ok(None);
     }
     let end = step_end(s, at);
     step_in(n, t, prev, &s[at..end], end)

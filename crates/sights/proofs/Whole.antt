@@ -3,18 +3,16 @@
 --   inputs_passed, outputs_passed == the columns of each side
 --   tests_pass == a cycle that passes the tests
 --   step_seen  == a good step is the one that is written, so the reader reads it
-use Rattle.std.proofs.Common.{◌≡◌, ℕ, ◌+◌, ◌/◌, ◌^◌, ◌<◌, ◌≤◌, Bool, true, false, cond, not, ◌&&◌, eqb, ltb, List, [], ◌∷◌, ◌++◌, length, get_or, take, drop, sym, refl, ap, ◌∙◌, inr, append_assoc, add-zero, zero-add, arith, length-append, length-drop, get_or-drop, take_at, ltb-true, ne_eqb, eqb-true}
+use Rattle.std.proofs.Common.{◌≡◌, ℕ, ◌+◌, ◌/◌, ◌^◌, ◌<◌, ◌≤◌, Bool, true, false, cond, not, ◌&&◌, eqb, ltb, List, [], ◌∷◌, ◌++◌, length, get_or, take, drop, sym, refl, ap, ◌∙◌, inr, append_assoc, add-zero, zero-add, arith, length-append, length-drop, get_or-drop, take_at, ltb-true, ne_eqb, eqb-true, Ok, Some}
 use mathlib.Core.Bool.{false≢true}
 use borrow.Author.Tests.{not-true}
 use lib.Bits.{bit_or}
 use Rattle.rules.specs.declared.Inputs.{Inputs}
 use Rattle.rules.specs.declared.Outputs.{Outputs}
 use Rattle.rules.specs.declared.Cycle.{Cycle}
-use Rattle.rules.specs.declared.Check.TheVariants.{Good}
 use Rattle.rules.specs.Codes.{most_cycles}
 use Rattle.rules.specs.State.{masters_ok}
 use Rattle.rules.specs.Valid.{cycle_check}
-use Rattle.formats.specs.declared.TraceRead.TheVariants.{Line}
 use Rattle.formats.specs.Columns.{cycle_values}
 use Rattle.formats.proofs.Limits.{ok_range, line_valid}
 use Rattle.waves.specs.Variables.{Variable, variables, change}
@@ -105,7 +103,7 @@ module _ (n : ℕ) (ok : masters_ok n ≡ true) where
       && ltb c.inputs.hburst 4
       && not (eqb c.inputs.hburst 2)
       && ltb c.outputs.hmaster n) ≡ true
-      → cycle_check n c ≡ Good
+      → cycle_check n c ≡ Ok tt
   tests_pass c t =
       let x = c.inputs in
       let o = c.outputs in
@@ -147,7 +145,7 @@ counted_changed (v ∷ vs) [] = refl
 counted_changed (v ∷ vs) (u ∷ us) = ap (λ k. cond (not (eqb u v)) 1 0 + k) (counted_changed vs us)
 
 -- a step that is written before something else is read
-module _ (n t : ℕ) (prev c : Cycle) (s : List ℕ) (next : ℕ) (ok : masters_ok n ≡ true) (some : 0 < t) (early : t < most_cycles) (valid : cycle_check n c ≡ Good)
+module _ (n t : ℕ) (prev c : Cycle) (s : List ℕ) (next : ℕ) (ok : masters_ok n ≡ true) (some : 0 < t) (early : t < most_cycles) (valid : cycle_check n c ≡ Ok tt)
     (inside : next ≤ length s) (ends : get_or s next 0 ≡ 35)
     (step : s ≡ time_line t ++ (changes false variables (cycle_values prev) (cycle_values c) ++ drop next s))
   where
@@ -161,12 +159,12 @@ module _ (n t : ℕ) (prev c : Cycle) (s : List ℕ) (next : ℕ) (ok : masters_
     size : length (dump_step prev t c) ≡ next
     size = omega (arith, ap length written, length-append (dump_step prev t c) (drop next s), length-drop next s)
 
-    pub step_reads : read_step_of n t prev s 0 ≡ Line c next
+    pub step_reads : read_step_of n t prev s 0 ≡ Ok (Some (c, next))
     step_reads =
         let post : get_or (drop next s) 0 0 ≡ 35 = get_or-drop next s 0 0 ∙ ap (λ i. get_or s i 0) (add-zero next) ∙ ends in
         ap (λ l. read_step_of n t prev l 0) written
         ∙ written_step_reads n t prev c [] (drop next s) (ok_range n ok) early valid (inr post)
-        ∙ ap (Line c) (zero-add (length (dump_step prev t c)) ∙ size)
+        ∙ ap (λ (q : ℕ). Ok (Some (c, q))) (zero-add (length (dump_step prev t c)) ∙ size)
 
     pub step_lines : (m : ℕ) → m ≡ 1 + counted (cycle_values prev) (cycle_values c) → lines_in (take next s) ≡ m
     step_lines m e =
@@ -178,13 +176,13 @@ module _ (n t : ℕ) (prev : Cycle) (s : List ℕ) (ok : masters_ok n ≡ true) 
     (at : ℕ) (time : Timed t s at)
     (x : Inputs) (p l : ℕ) (a : InputsPassed prev.inputs s at 1 x p l)
     (y : Outputs) (q m : ℕ) (b : OutputsPassed prev.outputs s p l y q m)
-    (valid : Bool) (ev : valid ≡ true → cycle_check n (record { inputs = x; outputs = y }) ≡ Good)
+    (valid : Bool) (ev : valid ≡ true → cycle_check n (record { inputs = x; outputs = y }) ≡ Ok tt)
   where
     abbrev cycle : Cycle
     cycle = record { inputs = x; outputs = y }
 
     pub step_seen : (at ≡ 0 → ⊥) → (ltb 0 t && valid && eqb (get_or s q 0) 35) ≡ true
-        → (read_step_of n t prev s 0 ≡ Line cycle q) × (lines_in (take q s) ≡ m) × (q ≤ length s)
+        → (read_step_of n t prev s 0 ≡ Ok (Some (cycle, q))) × (lines_in (take q s) ≡ m) × (q ≤ length s)
     step_seen timed g =
         let f = three_sides (ltb 0 t) valid (eqb (get_or s q 0) 35) g in
         let some = ltb-true 0 t f.0 in

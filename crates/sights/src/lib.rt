@@ -5,11 +5,9 @@ mod columns;
 mod time;
 
 ghost use Rattle.std.specs.Prelude.{◌≡◌, ◌+◌, ◌<◌, ◌≤◌, true, length, take};
-ghost use Rattle.rules.specs.declared.Check.TheVariants.{Good};
 ghost use Rattle.rules.specs.Codes.{most_cycles};
 ghost use Rattle.rules.specs.State.{masters_ok};
 ghost use Rattle.rules.specs.Valid.{cycle_check};
-ghost use Rattle.formats.specs.declared.TraceRead.TheVariants.{Line};
 ghost use Rattle.waves.specs.Files.{lines_in};
 ghost use Rattle.waves.specs.Reading.{read_step_of};
 ghost use Rattle.sights.specs.Sights.{InputsPassed, OutputsPassed};
@@ -83,7 +81,7 @@ fn see_outputs(o: Outputs, s: &[u8], q: usize, lines: u32) -> Answered
 // Whether a cycle passes the tests 4, 5, 6 and 7.
 fn passes(n: u32, c: Cycle) -> bool
     requires { masters_ok n ≡ true }
-    ensures { result ≡ true → cycle_check n c ≡ Good }
+    ensures { result ≡ true → cycle_check n c ≡ Ok tt }
 {
     let x = c.inputs;
     let o = c.outputs;
@@ -110,7 +108,7 @@ pub struct Seen {
 // The step of cycle t, after the cycle prev, that s begins with. It is not good if it is the first of a dump, or near the end of s.
 pub fn see_step(n: u32, t: u32, prev: Cycle, s: &[u8]) -> Seen
     requires { (masters_ok n ≡ true) × (t < most_cycles) }
-    ensures { result.good ≡ true → (read_step_of n t prev s.now 0 ≡ Line result.cycle result.next) × (lines_in (take result.next s.now) ≡ result.lines) × (result.next ≤ length s.now) }
+    ensures { result.good ≡ true → (read_step_of n t prev s.now 0 ≡ Ok (Some (result.cycle, result.next))) × (lines_in (take result.next s.now) ≡ result.lines) × (result.next ≤ length s.now) }
 {
     if s.len() < 128 {
         return Seen {

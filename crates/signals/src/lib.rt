@@ -7,7 +7,7 @@ ghost use Rattle.rules.specs.Codes.{burst_of, no_code, not_built};
 ghost use Rattle.rules.specs.Masks.{high, single, names_absent};
 ghost use Rattle.rules.specs.Valid.{inputs_too_large, outputs_too_large, inputs_not_built, inputs_absent, inputs_check, cycle_check};
 
-use rules::{Burst, Check, Cycle, Inputs, Outputs, Refusal};
+use rules::{Burst, Cycle, Inputs, Outputs, Refusal};
 
 // The number of a refusal.
 pub fn number(r: Refusal) -> u32
@@ -103,20 +103,20 @@ pub fn pick_flag(d: bool, a: bool, b: bool) -> bool
     if d { a } else { b }
 }
 
-fn pick_check(d: bool, a: Check, b: Check) -> Check
+fn pick_check(d: bool, a: Result<(), Refusal>, b: Result<(), Refusal>) -> Result<(), Refusal>
     ensures { result ≡ cond d a b }
 {
     if d { a } else { b }
 }
 
 // Of 4, 5, 6 and 7 the first that applies.
-fn first(value: bool, unbuilt: bool, absent: bool, owner: bool) -> Check
+fn first(value: bool, unbuilt: bool, absent: bool, owner: bool) -> Result<(), Refusal>
     ensures { result ≡ first_of value unbuilt absent owner }
 {
-    let at7 = pick_check(owner, Check::Bad(Refusal::Owner), Check::Good);
-    let at6 = pick_check(absent, Check::Bad(Refusal::Absent), at7);
-    let at5 = pick_check(unbuilt, Check::Bad(Refusal::NotBuilt), at6);
-    pick_check(value, Check::Bad(Refusal::Value), at5)
+    let at7 = pick_check(owner, Err(Refusal::Owner), Ok(()));
+    let at6 = pick_check(absent, Err(Refusal::Absent), at7);
+    let at5 = pick_check(unbuilt, Err(Refusal::NotBuilt), at6);
+    pick_check(value, Err(Refusal::Value), at5)
 }
 
 fn inputs_too_large(x: Inputs) -> bool
@@ -150,7 +150,7 @@ fn inputs_absent(n: u32, x: Inputs) -> bool
 }
 
 // The tests 4, 5 and 6 of a stimulus.
-pub fn check_inputs(n: u32, x: Inputs) -> Check
+pub fn check_inputs(n: u32, x: Inputs) -> Result<(), Refusal>
     ensures { result ≡ inputs_check n x }
 {
     let value = inputs_too_large(x);
@@ -160,7 +160,7 @@ pub fn check_inputs(n: u32, x: Inputs) -> Check
 }
 
 // The tests 4, 5, 6 and 7 of a recorded cycle.
-pub fn check_cycle(n: u32, c: Cycle) -> Check
+pub fn check_cycle(n: u32, c: Cycle) -> Result<(), Refusal>
     ensures { result ≡ cycle_check n c }
 {
     let x = c.inputs;

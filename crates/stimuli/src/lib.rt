@@ -5,7 +5,6 @@ ghost use Rattle.std.specs.Prelude.{◌≡◌, true, false, ◌≤◌, ◌<◌, 
 ghost use Rattle.rules.specs.Codes.{most_cycles};
 ghost use Rattle.rules.specs.State.{WellFormed};
 ghost use Rattle.rules.specs.Step.{step_of};
-ghost use Rattle.formats.specs.declared.StimulusRead.TheVariants.{Line};
 ghost use Rattle.formats.specs.Lines.{read_stimulus_of};
 ghost use Rattle.streams.specs.Arbiter.{stepped, arbiter_turn};
 ghost use Rattle.streams.specs.Blocks.{arbiter_room, as_arbiter, arbiter_stretch, bytes_of};
@@ -14,13 +13,12 @@ ghost use Rattle.buses.specs.Buses.{state_from, Fit};
 ghost use Rattle.stimuli.specs.Stops.{NotTaken};
 
 use buses::Bus;
-use formats::StimulusRead;
 use rules::{Cycle, Inputs, Refusal, State};
 use streams::{ArbiterStretch, Flow};
 
 // A cycle that the arbiter takes: the trace line of its stimulus line is written.
 fn go(n: u32, b: Bus, x: Inputs, rest: &[u8], out: &mut [u8]) -> Bus
-    requires { WellFormed (state_from n b) × Fit b × (b.count < most_cycles) × (read_stimulus_of n rest.now 0 ≡ Line x 16) × (16 ≤ length rest.now) × (31 ≤ length out.old) }
+    requires { WellFormed (state_from n b) × Fit b × (b.count < most_cycles) × (read_stimulus_of n rest.now 0 ≡ Ok (Some (x, 16))) × (16 ≤ length rest.now) × (31 ≤ length out.old) }
     ensures { Lined (state_from n b) (stepped (step_of (state_from n b) x) x (state_from n b) 16) out.old 31 true (state_from n result) out.new × Fit result }
 {
     let went = buses::advance(n, b, x);
@@ -39,9 +37,9 @@ fn stop(s: State, rest: &[u8], out: &mut [u8]) -> usize
     ensures { Lined s (arbiter_turn s rest.now) out.old result false s out.new }
 {
     match lines::read_stimulus(s.n, rest, 0) {
-        StimulusRead::Line(_, _) => reports::put_refused(s.count + 2, Refusal::Full, out),
-        StimulusRead::NoMore => 0,
-        StimulusRead::Refused(r) => reports::put_refused(s.count + 2, r, out),
+        Ok(Some((_, _))) => reports::put_refused(s.count + 2, Refusal::Full, out),
+        Ok(None) => 0,
+        Err(r) => reports::put_refused(s.count + 2, r, out),
     }
 }
 

@@ -7,7 +7,7 @@ use contract.Lifetimes.{Lfts}
 use denote.Ref.{Bor}
 use denote.MutBor.{MutBor}
 use Rattle.rules.specs.declared.State.{State}
-use Rattle.formats.specs.declared.Written.{Written}
+use Rattle.formats.specs.Results.{Written}
 use Rattle.streams.specs.declared.ArbiterStretch.{ArbiterStretch}
 use Rattle.streams.specs.declared.Tally.{Tally}
 use Rattle.streams.specs.declared.JudgeStretch.{JudgeStretch}

@@ -6,15 +6,12 @@
 --   judge_headed h   == what a trace header comes to: the judge at its start, or the line of its refusal
 --   arbiter_head_of, arbiter_head_left, judge_head_of, judge_head_left == the answers of the calls that take a header, and the buffer afterwards
 --   judge_end_of, judge_end_left == the answer of the call that writes the end line, and the buffer afterwards
-use Rattle.std.specs.Prelude.{ℕ, true, cond, List, [], ltb, length}
+use Rattle.std.specs.Prelude.{ℕ, true, cond, List, [], ltb, length, Err, Ok}
 use Rattle.rules.specs.declared.Refusal.TheVariants.{State as StateRefusal, Short as ShortRefusal}
 use Rattle.rules.specs.Refusals.{number_of}
 use Rattle.rules.specs.State.{reset_state}
 use Rattle.formats.specs.declared.Word.TheVariants.{Stim, Trace}
-use Rattle.formats.specs.declared.HeaderRead.{HeaderRead}
-use Rattle.formats.specs.declared.HeaderRead.TheVariants as head
-use Rattle.formats.specs.declared.Written.{Written}
-use Rattle.formats.specs.declared.Written.TheVariants as wrote
+use Rattle.formats.specs.Results.{HeaderRead, Written}
 use Rattle.formats.specs.Headers.{header, read_header_of}
 use Rattle.formats.specs.Lines.{left}
 use Rattle.formats.specs.Report.{refused_line, write_of}
@@ -33,12 +30,12 @@ head_room = 31
 
 -- the trace header as soon as the stimulus header is accepted
 abbrev pub arbiter_headed : HeaderRead → ArbiterHead
-arbiter_headed (head.Header n next) = Begun (length (header Trace n)) (reset_state n)
-arbiter_headed (head.Refused r) = Refused (length (refused_line 1 r))
+arbiter_headed (Ok (n, next)) = Begun (length (header Trace n)) (reset_state n)
+arbiter_headed (Err r) = Refused (length (refused_line 1 r))
 
 abbrev pub arbiter_head_bytes : HeaderRead → List ℕ
-arbiter_head_bytes (head.Header n next) = header Trace n
-arbiter_head_bytes (head.Refused r) = refused_line 1 r
+arbiter_head_bytes (Ok (n, next)) = header Trace n
+arbiter_head_bytes (Err r) = refused_line 1 r
 
 -- a header that is refused has its line among the bytes that are written; it is no refusal of the call
 abbrev pub head_answer : ArbiterHead → ℕ
@@ -55,8 +52,8 @@ arbiter_head_left s buffer =
 
 -- a refusal stands beside a judge of no masters, as in the judge's own start
 abbrev pub judge_headed : HeaderRead → Stretch Tally
-judge_headed (head.Header n next) = on [] (start_tally n)
-judge_headed (head.Refused r) = done (refused_line 1 r) (start_tally 0)
+judge_headed (Ok (n, next)) = on [] (start_tally n)
+judge_headed (Err r) = done (refused_line 1 r) (start_tally 0)
 
 unfoldable pub judge_head_of : List ℕ → ℕ → JudgeStretch
 judge_head_of s room =
@@ -67,7 +64,7 @@ judge_head_left s buffer = left_by head_room true (judge_headed (read_header_of 
 
 -- what is written where nothing is left: 10, 9
 unfoldable pub judge_end_of : Tally → ℕ → Written
-judge_end_of b room = cond (tally_formed b) (write_of (written judge_turn 1 b []) room) (wrote.Refused StateRefusal)
+judge_end_of b room = cond (tally_formed b) (write_of (written judge_turn 1 b []) room) (Err StateRefusal)
 
 unfoldable pub judge_end_left : Tally → List ℕ → List ℕ
 judge_end_left b buffer = left (judge_end_of b (length buffer)) (written judge_turn 1 b []) buffer

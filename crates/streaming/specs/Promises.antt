@@ -2,12 +2,11 @@
 -- by a law of its name, in lower case with underscores.
 --
 --   arbiter_run h, judge_run h == what a program writes for a header that was read and the blocks after it
-use Rattle.std.specs.Prelude.{ℕ, ◌≤◌, ◌<◌, ◌≡◌, true, List, [], ◌++◌, length, take, drop}
+use Rattle.std.specs.Prelude.{ℕ, ◌≤◌, ◌<◌, ◌≡◌, true, List, [], ◌++◌, length, take, drop, Err, Ok}
 use Rattle.rules.specs.declared.State.{State}
 use Rattle.rules.specs.State.{reset_state, well_formed}
 use Rattle.formats.specs.declared.Word.TheVariants.{Stim, Trace}
-use Rattle.formats.specs.declared.HeaderRead.{HeaderRead}
-use Rattle.formats.specs.declared.HeaderRead.TheVariants as head
+use Rattle.formats.specs.Results.{HeaderRead}
 use Rattle.formats.specs.Fields.{width}
 use Rattle.formats.specs.Lines.{stimulus_fields, trace_fields}
 use Rattle.formats.specs.Headers.{header, read_header_of}
@@ -21,12 +20,12 @@ use Rattle.streams.specs.Blocks.{joined, in_blocks, AllWhole, tally_formed, flow
 use Rattle.streaming.specs.Heads.{head_room, head_answer, arbiter_head_of, arbiter_head_left, judge_head_of, judge_head_left}
 
 abbrev pub arbiter_run : HeaderRead → List (List ℕ) → List ℕ → List ℕ
-arbiter_run (head.Header n next) blocks last = header Trace n ++ in_blocks arbiter_turn (reset_state n) blocks last
-arbiter_run (head.Refused r) blocks last = refused_line 1 r
+arbiter_run (Ok (n, next)) blocks last = header Trace n ++ in_blocks arbiter_turn (reset_state n) blocks last
+arbiter_run (Err r) blocks last = refused_line 1 r
 
 abbrev pub judge_run : HeaderRead → List (List ℕ) → List ℕ → List ℕ
-judge_run (head.Header n next) blocks last = in_blocks judge_turn (start_tally n) blocks last
-judge_run (head.Refused r) blocks last = refused_line 1 r
+judge_run (Ok (n, next)) blocks last = in_blocks judge_turn (start_tally n) blocks last
+judge_run (Err r) blocks last = refused_line 1 r
 
 -- What a program writes is a function of the bytes it reads: reading as many bytes as a header has, and then blocks of whole lines and
 -- a last one that may be cut, a program writes what it would write had it read all of its input at once.

@@ -12,8 +12,8 @@ ghost use Rattle.streaming.specs.declared.ArbiterHead.TheVariants.{Begun};
 ghost use Rattle.streams.specs.Turns.{over};
 ghost use Rattle.streaming.specs.Heads.{arbiter_head_of, arbiter_head_left, judge_head_of, judge_head_left, judge_end_of, judge_end_left};
 
-use formats::{HeaderRead, Word, Written};
-use rules::{Refusal, Start, State};
+use formats::Word;
+use rules::{Refusal, State};
 use streams::{ArbiterStretch, Flow, JudgeStretch, Tally};
 
 // What a stimulus header comes to: the bytes of the trace's header and the state to go on from, those of a refusal line, or 9.
@@ -30,8 +30,8 @@ fn begin(n: u32, out: &mut [u8]) -> ArbiterHead
     ensures { (result ≡ Begun (length (header Trace n)) (reset_state n)) × (out.new ≡ over (header Trace n) out.old) }
 {
     match arbitration::reset(n) {
-        Start::Ready(s) => ArbiterHead::Begun(reports::put_header(n, out), s),
-        Start::Refused(r) => ArbiterHead::Refused(reports::put_refused(1, r, out)),
+        Ok(s) => ArbiterHead::Begun(reports::put_header(n, out), s),
+        Err(r) => ArbiterHead::Refused(reports::put_refused(1, r, out)),
     }
 }
 
@@ -43,8 +43,8 @@ pub fn arbiter_head(head: &[u8], out: &mut [u8]) -> ArbiterHead
         return ArbiterHead::Short;
     }
     match headers::read_header(Word::Stim, head) {
-        HeaderRead::Header(n, _) => begin(n, out),
-        HeaderRead::Refused(r) => ArbiterHead::Refused(reports::put_refused(1, r, out)),
+        Ok((n, _)) => begin(n, out),
+        Err(r) => ArbiterHead::Refused(reports::put_refused(1, r, out)),
     }
 }
 
@@ -90,12 +90,12 @@ pub fn judge_head(head: &[u8], out: &mut [u8]) -> JudgeStretch
         };
     }
     match headers::read_header(Word::Trace, head) {
-        HeaderRead::Header(n, _) => JudgeStretch {
+        Ok((n, _)) => JudgeStretch {
             written: 0,
             flow: Flow::GoesOn,
             tally: tally(n),
         },
-        HeaderRead::Refused(r) => JudgeStretch {
+        Err(r) => JudgeStretch {
             written: reports::put_refused(1, r, out),
             flow: Flow::Stopped,
             tally: tally(0),
@@ -134,11 +134,11 @@ pub fn judge_block(b: Tally, block: &[u8], out: &mut [u8]) -> JudgeStretch
 }
 
 // The end of the trace: 10, 9, or the last line of the report.
-pub fn judge_end(b: Tally, out: &mut [u8]) -> Written
+pub fn judge_end(b: Tally, out: &mut [u8]) -> Result<usize, Refusal>
     ensures { (result ≡ judge_end_of b (length out.old)) × (out.new ≡ judge_end_left b out.old) }
 {
     if !tally_formed(b) {
-        return Written::Refused(Refusal::State);
+        return Err(Refusal::State);
     }
     let j = b.judge;
     headers::write_end(j.count, b.breaches, out)

@@ -4,6 +4,7 @@
 --   Used == what is counted where a block is used up
 --   used == a stretch that goes on has used up its block
 --   arbiter_counts, judge_counts == the turns of the two programs
+use Rattle.std.specs.Prelude.{Err, None, Ok, Some}
 use Prim.Native.Nat.{ℕ, zero, suc, ◌+◌, ◌*◌, ◌≤◌}
 use mathlib.Core.Path.{◌≡◌, refl, ap}
 use mathlib.Core.List.{List, [], ◌∷◌}
@@ -12,21 +13,16 @@ use lib.ListN.{length, drop, length-drop}
 use Rattle.rules.specs.declared.State.{State}
 use Rattle.rules.specs.declared.Inputs.{Inputs}
 use Rattle.rules.specs.declared.Cycle.{Cycle}
-use Rattle.rules.specs.declared.Answer.{Answer}
-use Rattle.rules.specs.declared.Answer.TheVariants.{Next, Refused}
+use Rattle.rules.specs.Results.{Answer}
 use Rattle.rules.specs.Codes.{most_cycles}
 use Rattle.rules.specs.Step.{step_of}
 use Rattle.rules.proofs.Taken.{taken, next_count}
 use Rattle.rulebook.specs.declared.Judge.{Judge}
-use Rattle.rulebook.specs.declared.Verdict.{Verdict}
-use Rattle.rulebook.specs.declared.Verdict.TheVariants.{Taken, Refused as Unjudged}
+use Rattle.rulebook.specs.Results.{Verdict}
 use Rattle.rulebook.specs.Charges.{next_judge}
 use Rattle.rulebook.specs.Step.{judge_of}
 use Rattle.rulebook.proofs.Answers.{taken as judge_taken, next_judge_lem}
-use Rattle.formats.specs.declared.StimulusRead.{StimulusRead}
-use Rattle.formats.specs.declared.StimulusRead.TheVariants as stimulus
-use Rattle.formats.specs.declared.TraceRead.{TraceRead}
-use Rattle.formats.specs.declared.TraceRead.TheVariants as trace
+use Rattle.formats.specs.Results.{StimulusRead, TraceRead}
 use Rattle.formats.specs.Lines.{read_stimulus_of, read_trace_of}
 use Rattle.streams.specs.declared.Tally.{Tally}
 use Rattle.streams.specs.Streams.{Turn, goes, stops, Stretch, on, done, before, stretch}
@@ -98,20 +94,20 @@ unfolding arbiter_turn
 arbiter_counts s rest bytes t k = go (read_stimulus_of s.n rest 0)
   where
     stepping : (x : Inputs) (next : ℕ) (a : Answer) → step_of s x ≡ a → stepped a x s next ≡ goes bytes t k → (t.count ≡ s.count + 1) × (t.count ≤ most_cycles)
-    stepping x next (Next u o) p e =
+    stepping x next (Ok (u, o)) p e =
         let q = taken s x u o p in
         let same : t ≡ u = cc in
         let c = next_count s x u o q in
         rw same (c, omega (arith, q.room))
-    stepping x next (Refused r u) p e = let z : ◌≡◌ {A = ℕ} 0 1 = cc in absurd (omega arith)
+    stepping x next (Err (r, u)) p e = let z : ◌≡◌ {A = ℕ} 0 1 = cc in absurd (omega arith)
 
     go : (r : StimulusRead) → stimulated r s ≡ goes bytes t k → (t.count ≡ s.count + 1) × (t.count ≤ most_cycles)
-    go (stimulus.Line x next) e = stepping x next (step_of s x) refl e
-    go stimulus.NoMore e = let z : ◌≡◌ {A = ℕ} 0 1 = cc in absurd (omega arith)
-    go (stimulus.Refused r) e = let z : ◌≡◌ {A = ℕ} 0 1 = cc in absurd (omega arith)
+    go (Ok (Some (x, next))) e = stepping x next (step_of s x) refl e
+    go (Ok None) e = let z : ◌≡◌ {A = ℕ} 0 1 = cc in absurd (omega arith)
+    go (Err r) e = let z : ◌≡◌ {A = ℕ} 0 1 = cc in absurd (omega arith)
 
 -- the judge's count after a cycle that is taken
-judged_count : (j : Judge) (c : Cycle) → (judge_of j c).verdict ≡ Taken → ((judge_of j c).judge.count ≡ j.count + 1) × ((judge_of j c).judge.count ≤ most_cycles)
+judged_count : (j : Judge) (c : Cycle) → (judge_of j c).verdict ≡ Ok tt → ((judge_of j c).judge.count ≡ j.count + 1) × ((judge_of j c).judge.count ≤ most_cycles)
 unfolding next_judge
 judged_count j c p =
     let a = judge_taken j c p in
@@ -124,12 +120,12 @@ judge_counts b rest bytes t k = go (read_trace_of b.judge.n rest 0)
   where
     judging : (c : Cycle) (next : ℕ) (v : Verdict) → (judge_of b.judge c).verdict ≡ v → judged_to v (judge_of b.judge c) b next ≡ goes bytes t k
         → (t.judge.count ≡ b.judge.count + 1) × (t.judge.count ≤ most_cycles)
-    judging c next Taken p e =
+    judging c next (Ok _) p e =
         let same : t.judge ≡ (judge_of b.judge c).judge = cc in
         rw same (judged_count b.judge c p)
-    judging c next (Unjudged r) p e = let z : ◌≡◌ {A = ℕ} 0 1 = cc in absurd (omega arith)
+    judging c next (Err r) p e = let z : ◌≡◌ {A = ℕ} 0 1 = cc in absurd (omega arith)
 
     go : (r : TraceRead) → traced r b ≡ goes bytes t k → (t.judge.count ≡ b.judge.count + 1) × (t.judge.count ≤ most_cycles)
-    go (trace.Line c next) e = judging c next (judge_of b.judge c).verdict refl e
-    go trace.NoMore e = let z : ◌≡◌ {A = ℕ} 0 1 = cc in absurd (omega arith)
-    go (trace.Refused r) e = let z : ◌≡◌ {A = ℕ} 0 1 = cc in absurd (omega arith)
+    go (Ok (Some (c, next))) e = judging c next (judge_of b.judge c).verdict refl e
+    go (Ok None) e = let z : ◌≡◌ {A = ℕ} 0 1 = cc in absurd (omega arith)
+    go (Err r) e = let z : ◌≡◌ {A = ℕ} 0 1 = cc in absurd (omega arith)

@@ -2,8 +2,9 @@
 --
 --   head_near     == the bytes that a program reads tell the header of the whole input
 --   head_size_lem == and are those of the header, where it is accepted
+use Rattle.std.specs.Prelude.{Err, Ok}
 use Prim.Native.Nat.{ℕ, zero, suc, ◌+◌, ◌-◌, ◌*◌, ◌≤◌}
-use mathlib.Core.Path.{◌≡◌, refl}
+use mathlib.Core.Path.{◌≡◌, refl, sym}
 use mathlib.Core.Bool.{Bool, true, false, not, ◌&&◌, cond}
 use mathlib.Core.List.{List}
 use native.Mathlib.Omega.{arith}
@@ -11,12 +12,12 @@ use borrow.Author.Tests.{eqb-true}
 use lib.Dec.{eqb}
 use lib.ListN.{length, get_or, take}
 use lib.Seq.{get_or-take}
+use Rattle.rules.proofs.Parts.{ok_parts}
 use Rattle.rules.specs.declared.Refusal.TheVariants as refusal
 use Rattle.rules.specs.State.{masters_ok}
 use Rattle.rules.proofs.Choice.{either}
 use Rattle.formats.specs.declared.Word.{Word}
-use Rattle.formats.specs.declared.HeaderRead.{HeaderRead}
-use Rattle.formats.specs.declared.HeaderRead.TheVariants.{Header, Refused}
+use Rattle.formats.specs.Results.{HeaderRead}
 use Rattle.formats.specs.Digits.{lf}
 use Rattle.formats.specs.Headers.{prefix, same_to, starts_with, is_decimal, ranged, number_in, read_header_of}
 use Rattle.streams.specs.Heads.{head_size}
@@ -27,7 +28,7 @@ digits a b c p =
     cond (is_decimal a && eqb b lf) (ranged (a - 48) (p + 2))
     (cond (is_decimal a && not (eqb a 48) && is_decimal b && eqb c lf)
     (ranged ((a - 48) * 10 + (b - 48)) (p + 3))
-    (Refused refusal.Header))
+    (Err refusal.Header))
 
 same_near : (k m : ℕ) (s t : List ℕ) → k ≤ m → same_to k (take m s) t ≡ same_to k s t
 same_near zero m s t h = refl
@@ -37,8 +38,8 @@ same_near (suc k) m s t h = rw (same_near k m s t (omega arith), get_or-take m s
 after_lf : (a c d p : ℕ) → digits a lf c p ≡ digits a lf d p
 after_lf a c d p = go (is_decimal a) (not (eqb a 48))
   where
-    go : (x y : Bool) → cond (x && true) (ranged (a - 48) (p + 2)) (cond (x && y && false && eqb c lf) (ranged ((a - 48) * 10 + (lf - 48)) (p + 3)) (Refused refusal.Header))
-        ≡ cond (x && true) (ranged (a - 48) (p + 2)) (cond (x && y && false && eqb d lf) (ranged ((a - 48) * 10 + (lf - 48)) (p + 3)) (Refused refusal.Header))
+    go : (x y : Bool) → cond (x && true) (ranged (a - 48) (p + 2)) (cond (x && y && false && eqb c lf) (ranged ((a - 48) * 10 + (lf - 48)) (p + 3)) (Err refusal.Header))
+        ≡ cond (x && true) (ranged (a - 48) (p + 2)) (cond (x && y && false && eqb d lf) (ranged ((a - 48) * 10 + (lf - 48)) (p + 3)) (Err refusal.Header))
     go true true = refl
     go true false = refl
     go false y = refl
@@ -77,17 +78,17 @@ module _ (w : Word) (s : List ℕ) where
   unfolding read_header_of
   head_near = rw (same_near p (head_size w s) s (prefix w) large, number_near)
 
-ranged_next : (n k m next : ℕ) → ranged n k ≡ Header m next → next ≡ k
+ranged_next : (n k m next : ℕ) → ranged n k ≡ Ok (m, next) → next ≡ k
 ranged_next n k m next e =
     either (masters_ok n)
-    (λ q. let f = rw q at e in cc)
+    (λ q. let f = rw q at e in sym (ok_parts f).1)
     (λ q. let f = rw q at e in let z : ◌≡◌ {A = ℕ} 0 1 = cc in absurd (omega arith))
 
-digits_next : (a b c p n next : ℕ) → digits a b c p ≡ Header n next → next ≡ cond (eqb b lf) (p + 2) (p + 3)
+digits_next : (a b c p n next : ℕ) → digits a b c p ≡ Ok (n, next) → next ≡ cond (eqb b lf) (p + 2) (p + 3)
 digits_next a b c p n next e = go (is_decimal a) (eqb b lf) (not (eqb a 48)) (is_decimal b) (eqb c lf) e
   where
     go : (x l y z m : Bool)
-        → cond (x && l) (ranged (a - 48) (p + 2)) (cond (x && y && z && m) (ranged ((a - 48) * 10 + (b - 48)) (p + 3)) (Refused refusal.Header)) ≡ Header n next
+        → cond (x && l) (ranged (a - 48) (p + 2)) (cond (x && y && z && m) (ranged ((a - 48) * 10 + (b - 48)) (p + 3)) (Err refusal.Header)) ≡ Ok (n, next)
         → next ≡ cond l (p + 2) (p + 3)
     go true true y z m f = ranged_next (a - 48) (p + 2) n next f
     go true false true true true f = ranged_next ((a - 48) * 10 + (b - 48)) (p + 3) n next f
@@ -96,7 +97,7 @@ digits_next a b c p n next e = go (is_decimal a) (eqb b lf) (not (eqb a 48)) (is
     go true false false z m f = let z : ◌≡◌ {A = ℕ} 0 1 = cc in absurd (omega arith)
     go false l y z m f = let z : ◌≡◌ {A = ℕ} 0 1 = cc in absurd (omega arith)
 
-pub head_size_lem : (w : Word) (s : List ℕ) (n next : ℕ) → read_header_of w s ≡ Header n next → next ≡ head_size w s
+pub head_size_lem : (w : Word) (s : List ℕ) (n next : ℕ) → read_header_of w s ≡ Ok (n, next) → next ≡ head_size w s
 unfolding read_header_of number_in head_size
 head_size_lem w s n next e =
     either (starts_with s (prefix w))

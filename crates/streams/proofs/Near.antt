@@ -2,6 +2,7 @@
 --
 --   number_near, parted_near, place_near == what stands in a list is seen the same with more behind it
 --   arbiter_by_lines, judge_by_lines     == the turns of the two programs
+use Rattle.std.specs.Prelude.{Err, None, Ok, Some}
 use Prim.Native.Nat.{ℕ, zero, suc, ◌+◌, ◌-◌, ◌≤◌}
 use mathlib.Core.Path.{◌≡◌, refl, sym, ◌∙◌, ap}
 use mathlib.Core.Bool.{Bool, true, false, cond}
@@ -10,26 +11,20 @@ use native.Mathlib.Omega.{arith}
 use borrow.Author.Tests.{le-ltb, ltb-true, ltb-false, ne_eqb}
 use lib.Dec.{eqb, ltb}
 use lib.ListN.{length, get_or-append, length-append}
+use Rattle.rules.proofs.Parts.{line_parts}
 use Rattle.rules.specs.declared.Refusal.TheVariants as refusal
-use Rattle.rules.specs.declared.Check.{Check}
-use Rattle.rules.specs.declared.Check.TheVariants.{Good, Bad}
+use Rattle.rules.specs.Results.{Check, Answer}
 use Rattle.rules.specs.declared.State.{State}
 use Rattle.rules.specs.declared.Inputs.{Inputs}
 use Rattle.rules.specs.declared.Cycle.{Cycle}
-use Rattle.rules.specs.declared.Answer.{Answer}
-use Rattle.rules.specs.declared.Answer.TheVariants.{Next, Refused}
 use Rattle.rules.specs.Valid.{inputs_check}
 use Rattle.rules.specs.State.{masters_ok}
 use Rattle.rules.specs.Step.{step_of}
 use Rattle.formats.specs.Digits.{number_at}
 use Rattle.formats.specs.Fields.{Field, width, parted}
 use Rattle.formats.specs.Lines.{stimulus_fields, trace_fields, inputs_at, outputs_at, cycle_at, line_check, Place, beyond, at_end, cut, whole, place, stimulus_checked, stimulus_in, read_stimulus_of, trace_checked, trace_in, read_trace_of}
-use Rattle.formats.specs.declared.StimulusRead.{StimulusRead}
-use Rattle.formats.specs.declared.StimulusRead.TheVariants as stimulus
-use Rattle.formats.specs.declared.TraceRead.{TraceRead}
-use Rattle.formats.specs.declared.TraceRead.TheVariants as trace
-use Rattle.rulebook.specs.declared.Verdict.{Verdict}
-use Rattle.rulebook.specs.declared.Verdict.TheVariants.{Taken, Refused as Unjudged}
+use Rattle.formats.specs.Results.{StimulusRead, TraceRead}
+use Rattle.rulebook.specs.Results.{Verdict}
 use Rattle.rulebook.specs.declared.Judgement.{Judgement}
 use Rattle.rulebook.specs.Step.{judge_of}
 use Rattle.streams.specs.declared.Tally.{Tally}
@@ -84,8 +79,8 @@ module _ (a b : List ℕ) where
       )
 
   stimulus_checked_lem : 16 ≤ length a → (k : Check) → stimulus_checked k (a ++ b) 0 ≡ stimulus_checked k a 0
-  stimulus_checked_lem h Good = ap (λ (x : Inputs). stimulus.Line x 16) (inputs_near h)
-  stimulus_checked_lem h (Bad r) = refl
+  stimulus_checked_lem h (Ok _) = ap (λ (x : Inputs). Ok (Some (x, 16))) (inputs_near h)
+  stimulus_checked_lem h (Err r) = refl
 
   stimulus_in_lem : (n : ℕ) → 16 ≤ length a → (q : Place) → stimulus_in q n (a ++ b) 0 ≡ stimulus_in q n a 0
   stimulus_in_lem n h beyond = refl
@@ -104,8 +99,8 @@ module _ (a b : List ℕ) where
   cycle_near h = rw (inputs_near (omega arith), outputs_near h)
 
   trace_checked_lem : 31 ≤ length a → (k : Check) → trace_checked k (a ++ b) 0 ≡ trace_checked k a 0
-  trace_checked_lem h Good = ap (λ (c : Cycle). trace.Line c 31) (cycle_near h)
-  trace_checked_lem h (Bad r) = refl
+  trace_checked_lem h (Ok _) = ap (λ (c : Cycle). Ok (Some (c, 31))) (cycle_near h)
+  trace_checked_lem h (Err r) = refl
 
   trace_in_lem : (n : ℕ) → 31 ≤ length a → (q : Place) → trace_in q n (a ++ b) 0 ≡ trace_in q n a 0
   trace_in_lem n h beyond = refl
@@ -132,7 +127,7 @@ place_whole fs s e = go (ltb (length s) 0) (eqb 0 (length s)) (ltb (length s - 0
     go false false false p q r = omega (arith, ltb-false (length s - 0) (width fs) r)
 
 -- a stimulus line that was read
-stimulus_line_lem : (n : ℕ) (s : List ℕ) (x : Inputs) (k : ℕ) → read_stimulus_of n s 0 ≡ stimulus.Line x k → (k ≡ 16) × (16 ≤ length s)
+stimulus_line_lem : (n : ℕ) (s : List ℕ) (x : Inputs) (k : ℕ) → read_stimulus_of n s 0 ≡ Ok (Some (x, k)) → (k ≡ 16) × (16 ≤ length s)
 unfolding read_stimulus_of
 stimulus_line_lem n s x k e = go (masters_ok n) (place stimulus_fields s 0) (inputs_check n (inputs_at s 0)) refl refl refl
   where
@@ -141,10 +136,10 @@ stimulus_line_lem n s x k e = go (masters_ok n) (place stimulus_fields s 0) (inp
     go true beyond c p u v = let f = simp (p, u) at e in let z : ◌≡◌ {A = ℕ} 0 1 = cc in absurd (omega arith)
     go true at_end c p u v = let f = simp (p, u) at e in let z : ◌≡◌ {A = ℕ} 0 1 = cc in absurd (omega arith)
     go true cut c p u v = let f = simp (p, u) at e in let z : ◌≡◌ {A = ℕ} 0 1 = cc in absurd (omega arith)
-    go true whole Good p u v = let f = simp (p, u, v) at e in (cc, place_whole stimulus_fields s u)
-    go true whole (Bad r) p u v = let f = simp (p, u, v) at e in let z : ◌≡◌ {A = ℕ} 0 1 = cc in absurd (omega arith)
+    go true whole (Ok _) p u v = let f = simp (p, u, v) at e in (sym (line_parts f).1, place_whole stimulus_fields s u)
+    go true whole (Err r) p u v = let f = simp (p, u, v) at e in let z : ◌≡◌ {A = ℕ} 0 1 = cc in absurd (omega arith)
 
-pub trace_line_lem : (n : ℕ) (s : List ℕ) (c : Cycle) (k : ℕ) → read_trace_of n s 0 ≡ trace.Line c k → (k ≡ 31) × (31 ≤ length s)
+pub trace_line_lem : (n : ℕ) (s : List ℕ) (c : Cycle) (k : ℕ) → read_trace_of n s 0 ≡ Ok (Some (c, k)) → (k ≡ 31) × (31 ≤ length s)
 unfolding read_trace_of
 trace_line_lem n s x k e = go (masters_ok n) (place trace_fields s 0) (line_check n (cycle_at s 0)) refl refl refl
   where
@@ -153,15 +148,15 @@ trace_line_lem n s x k e = go (masters_ok n) (place trace_fields s 0) (line_chec
     go true beyond c p u v = let f = simp (p, u) at e in let z : ◌≡◌ {A = ℕ} 0 1 = cc in absurd (omega arith)
     go true at_end c p u v = let f = simp (p, u) at e in let z : ◌≡◌ {A = ℕ} 0 1 = cc in absurd (omega arith)
     go true cut c p u v = let f = simp (p, u) at e in let z : ◌≡◌ {A = ℕ} 0 1 = cc in absurd (omega arith)
-    go true whole Good p u v = let f = simp (p, u, v) at e in (cc, place_whole trace_fields s u)
-    go true whole (Bad r) p u v = let f = simp (p, u, v) at e in let z : ◌≡◌ {A = ℕ} 0 1 = cc in absurd (omega arith)
+    go true whole (Ok _) p u v = let f = simp (p, u, v) at e in (sym (line_parts f).1, place_whole trace_fields s u)
+    go true whole (Err r) p u v = let f = simp (p, u, v) at e in let z : ◌≡◌ {A = ℕ} 0 1 = cc in absurd (omega arith)
 
 -- where nothing is left, nothing is read
 stimulus_none : (n : ℕ) (s : State) → (bytes : List ℕ) × (stimulated (read_stimulus_of n [] 0) s ≡ stops bytes)
 unfolding read_stimulus_of place
 stimulus_none n s = go (masters_ok n)
   where
-    go : (m : Bool) → (bytes : List ℕ) × (stimulated (cond m stimulus.NoMore (stimulus.Refused refusal.Masters)) s ≡ stops bytes)
+    go : (m : Bool) → (bytes : List ℕ) × (stimulated (cond m (Ok None) (Err refusal.Masters)) s ≡ stops bytes)
     go true = (_, refl)
     go false = (_, refl)
 
@@ -169,7 +164,7 @@ trace_none : (n : ℕ) (b : Tally) → (bytes : List ℕ) × (traced (read_trace
 unfolding read_trace_of place
 trace_none n b = go (masters_ok n)
   where
-    go : (m : Bool) → (bytes : List ℕ) × (traced (cond m trace.NoMore (trace.Refused refusal.Masters)) b ≡ stops bytes)
+    go : (m : Bool) → (bytes : List ℕ) × (traced (cond m (Ok None) (Err refusal.Masters)) b ≡ stops bytes)
     go true = (_, refl)
     go false = (_, refl)
 
@@ -187,16 +182,16 @@ arbiter_by_lines =
     found s rest bytes t k e = go (read_stimulus_of s.n rest 0) refl
       where
         taken : (x : Inputs) (next : ℕ) (a : Answer) → stepped a x s next ≡ goes bytes t k → next ≡ k
-        taken x next (Next u o) f = cc
-        taken x next (Refused r u) f = let z : ◌≡◌ {A = ℕ} 0 1 = cc in absurd (omega arith)
+        taken x next (Ok (u, o)) f = cc
+        taken x next (Err (r, u)) f = let z : ◌≡◌ {A = ℕ} 0 1 = cc in absurd (omega arith)
 
         go : (r : StimulusRead) → read_stimulus_of s.n rest 0 ≡ r → (k ≡ 16) × (16 ≤ length rest)
-        go (stimulus.Line x next) p =
+        go (Ok (Some (x, next))) p =
             let l = stimulus_line_lem s.n rest x next p in
             let q = taken x next (step_of s x) (rw p at e) in
             (sym q ∙ l.0, l.1)
-        go stimulus.NoMore p = let f = rw p at e in let z : ◌≡◌ {A = ℕ} 0 1 = cc in absurd (omega arith)
-        go (stimulus.Refused r) p = let f = rw p at e in let z : ◌≡◌ {A = ℕ} 0 1 = cc in absurd (omega arith)
+        go (Ok None) p = let f = rw p at e in let z : ◌≡◌ {A = ℕ} 0 1 = cc in absurd (omega arith)
+        go (Err r) p = let f = rw p at e in let z : ◌≡◌ {A = ℕ} 0 1 = cc in absurd (omega arith)
 
 pub judge_by_lines : ByLines 31 judge_turn
 unfolding judge_turn
@@ -212,13 +207,13 @@ judge_by_lines =
     found b rest bytes t k e = go (read_trace_of b.judge.n rest 0) refl
       where
         taken : (next : ℕ) (a : Judgement) (v : Verdict) → judged_to v a b next ≡ goes bytes t k → next ≡ k
-        taken next a Taken f = cc
-        taken next a (Unjudged r) f = let z : ◌≡◌ {A = ℕ} 0 1 = cc in absurd (omega arith)
+        taken next a (Ok _) f = cc
+        taken next a (Err r) f = let z : ◌≡◌ {A = ℕ} 0 1 = cc in absurd (omega arith)
 
         go : (r : TraceRead) → read_trace_of b.judge.n rest 0 ≡ r → (k ≡ 31) × (31 ≤ length rest)
-        go (trace.Line c next) p =
+        go (Ok (Some (c, next))) p =
             let l = trace_line_lem b.judge.n rest c next p in
             let q = taken next (judge_of b.judge c) (judge_of b.judge c).verdict (rw p at e) in
             (sym q ∙ l.0, l.1)
-        go trace.NoMore p = let f = rw p at e in let z : ◌≡◌ {A = ℕ} 0 1 = cc in absurd (omega arith)
-        go (trace.Refused r) p = let f = rw p at e in let z : ◌≡◌ {A = ℕ} 0 1 = cc in absurd (omega arith)
+        go (Ok None) p = let f = rw p at e in let z : ◌≡◌ {A = ℕ} 0 1 = cc in absurd (omega arith)
+        go (Err r) p = let f = rw p at e in let z : ◌≡◌ {A = ℕ} 0 1 = cc in absurd (omega arith)

@@ -1,10 +1,9 @@
 -- What a program writes is a function of the bytes it reads: the same wherever the input is cut into blocks of whole lines. And
 -- what a refused block leaves.
-use Rattle.std.specs.Prelude.{ℕ, ◌≡◌, List, ◌++◌, length, drop}
+use Rattle.std.specs.Prelude.{ℕ, ◌≡◌, List, ◌++◌, length, drop, Ok}
 use Rattle.rules.specs.declared.State.{State}
 use Rattle.rules.specs.State.{reset_state}
 use Rattle.formats.specs.declared.Word.TheVariants.{Stim, Trace}
-use Rattle.formats.specs.declared.HeaderRead.TheVariants.{Header}
 use Rattle.formats.specs.Fields.{width}
 use Rattle.formats.specs.Lines.{stimulus_fields, trace_fields}
 use Rattle.formats.specs.Headers.{header, read_header_of}
@@ -16,14 +15,14 @@ use Rattle.streams.specs.Blocks.{joined, in_blocks, AllWhole, flow_answer, arbit
 -- the arbiter program, block by block: blocks of stimulus lines of 16 bytes, and a last one that may be cut
 abbrev pub ArbiterInBlocks : Type 0
 ArbiterInBlocks =
-    (s : List ℕ) (n next : ℕ) (blocks : List (List ℕ)) (last : List ℕ) → read_header_of Stim s ≡ Header n next
+    (s : List ℕ) (n next : ℕ) (blocks : List (List ℕ)) (last : List ℕ) → read_header_of Stim s ≡ Ok (n, next)
     → drop next s ≡ joined blocks last → AllWhole (width stimulus_fields) blocks
     → arbiter_program s ≡ header Trace n ++ in_blocks arbiter_turn (reset_state n) blocks last
 
 -- the judging program, block by block: blocks of trace lines of 31 bytes
 abbrev pub JudgeInBlocks : Type 0
 JudgeInBlocks =
-    (s : List ℕ) (n next : ℕ) (blocks : List (List ℕ)) (last : List ℕ) → read_header_of Trace s ≡ Header n next
+    (s : List ℕ) (n next : ℕ) (blocks : List (List ℕ)) (last : List ℕ) → read_header_of Trace s ≡ Ok (n, next)
     → drop next s ≡ joined blocks last → AllWhole (width trace_fields) blocks
     → judge_program s ≡ in_blocks judge_turn (start_tally n) blocks last
 

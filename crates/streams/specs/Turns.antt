@@ -5,17 +5,16 @@
 --   Put bytes buffer k left == a writer wrote these bytes, k of them
 --   bytes_in t, goes_on t, state_after s t, taken_by t == the bytes that a turn writes, whether it goes on, the state it ends in, and how many bytes it takes
 --   Lined s t ..      == the answer of a call that takes one line, and the buffer afterwards, are those of the turn t
-use Rattle.std.specs.Prelude.{ℕ, ◌≡◌, Bool, true, false, List, ◌++◌, length, drop}
-use Rattle.formats.specs.declared.Written.{Written}
-use Rattle.formats.specs.declared.Written.TheVariants.{Bytes, Refused}
+use Rattle.std.specs.Prelude.{ℕ, ◌≡◌, Bool, true, false, List, ◌++◌, length, drop, Err, Ok}
+use Rattle.formats.specs.Results.{Written}
 use Rattle.streams.specs.Streams.{Turn, goes, stops}
 
 abbrev pub over : List ℕ → List ℕ → List ℕ
 over bytes buffer = bytes ++ drop (length bytes) buffer
 
 abbrev pub size_of : Written → ℕ
-size_of (Bytes k) = k
-size_of (Refused r) = 0
+size_of (Ok k) = k
+size_of (Err r) = 0
 
 pub record Put (bytes buffer : List ℕ) (k : ℕ) (left : List ℕ) : Type 0 where
   pub size : k ≡ length bytes

@@ -5,6 +5,7 @@
 --   formed_on == a program that went on stays well formed, and read at least a byte of no more than 1,000,001 lines
 --   lent      == the program's buffers
 --   begun_formed, begins, refuses == a header that is accepted begins before cycle 0; one that is refused ends the program
+use Rattle.std.specs.Prelude.{Err, Ok}
 use Prim.Native.Nat.{ℕ, ◌+◌, ◌*◌, ◌≤◌, ◌<◌}
 use mathlib.Core.Path.{◌≡◌, refl, sym, ◌∙◌, ap}
 use mathlib.Core.Bool.{Bool, true, false, ◌&&◌, cond, true≢false, false≢true}
@@ -15,8 +16,7 @@ use lib.ListN.{length, take}
 use Rattle.rules.specs.declared.Refusal.{Refusal}
 use Rattle.rules.specs.Codes.{most_cycles}
 use Rattle.formats.specs.declared.Word.TheVariants.{Trace}
-use Rattle.formats.specs.declared.HeaderRead.{HeaderRead}
-use Rattle.formats.specs.declared.HeaderRead.TheVariants.{Header, Refused as Unread}
+use Rattle.formats.specs.Results.{HeaderRead}
 use Rattle.formats.specs.Headers.{read_header_of}
 use Rattle.formats.proofs.Headers.{header_writes}
 use Rattle.streams.specs.Streams.{Stretch, on, done}
@@ -98,7 +98,7 @@ module _ (head : List ℕ) (room : ℕ) (a : Converted) (is : a ≡ dump_head_of
     fails true n p = absurd (true≢false p)
     fails false n p = refl
 
-    ends : (given : Bool) (h : HeaderRead) (r : Refusal) → h ≡ Unread r → e ≡ cond given ending.Refused ending.Unwritten
+    ends : (given : Bool) (h : HeaderRead) (r : Refusal) → h ≡ Err r → e ≡ cond given ending.Refused ending.Unwritten
         → Begins no_breach dump_turn (Lines 31) begun_with e h
     ends true h r q p = rw q (refused p)
     ends false h r q p = unwritten p
@@ -107,21 +107,21 @@ module _ (head : List ℕ) (room : ℕ) (a : Converted) (is : a ≡ dump_head_of
     begun_formed g = go (read_header_of Trace head) refl
       where
         go : (h : HeaderRead) → read_header_of Trace head ≡ h → position_formed t ≡ true
-        go (Header n next) q =
+        go (Ok (n, next)) q =
             let range = (header_writes Trace head n next q).range in
-            rw (sorted (Header n next) q).1 (dump_stays_formed.0 n range.few range.many)
-        go (Unread r) q = let c = (sorted (Unread r) q).0 in stops c.given (sym c.flow ∙ g)
+            rw (sorted (Ok (n, next)) q).1 (dump_stays_formed.0 n range.few range.many)
+        go (Err r) q = let c = (sorted (Err r) q).0 in stops c.given (sym c.flow ∙ g)
 
     pub begins : (f : Ending) → goes ≡ true → Ran no_breach dump_turn (Lines 31) t f → Begins no_breach dump_turn (Lines 31) begun_with f (read_header_of Trace head)
     begins f g ran = go (read_header_of Trace head) refl
       where
         go : (h : HeaderRead) → read_header_of Trace head ≡ h → Begins no_breach dump_turn (Lines 31) begun_with f (read_header_of Trace head)
-        go (Header n next) q = rw q (begun (rw (sorted (Header n next) q).1 at ran))
-        go (Unread r) q = let c = (sorted (Unread r) q).0 in stops c.given (sym c.flow ∙ g)
+        go (Ok (n, next)) q = rw q (begun (rw (sorted (Ok (n, next)) q).1 at ran))
+        go (Err r) q = let c = (sorted (Err r) q).0 in stops c.given (sym c.flow ∙ g)
 
     pub refuses : goes ≡ false → Begins no_breach dump_turn (Lines 31) begun_with e (read_header_of Trace head)
     refuses g = go (read_header_of Trace head) refl
       where
         go : (h : HeaderRead) → read_header_of Trace head ≡ h → Begins no_breach dump_turn (Lines 31) begun_with e (read_header_of Trace head)
-        go (Header n next) q = let c = (sorted (Header n next) q).0 in unwritten (c.ending ∙ fails c.given n (sym c.flow ∙ g))
-        go (Unread r) q = let c = (sorted (Unread r) q).0 in ends c.given (read_header_of Trace head) r q c.ending
+        go (Ok (n, next)) q = let c = (sorted (Ok (n, next)) q).0 in unwritten (c.ending ∙ fails c.given n (sym c.flow ∙ g))
+        go (Err r) q = let c = (sorted (Err r) q).0 in ends c.given (read_header_of Trace head) r q c.ending

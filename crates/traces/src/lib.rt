@@ -2,7 +2,6 @@
 #![tactic(auto)]
 
 ghost use Rattle.std.specs.Prelude.{◌≡◌, true, false, ◌≤◌, ◌<◌, length};
-ghost use Rattle.rules.specs.declared.Check.TheVariants.{Good};
 ghost use Rattle.rules.specs.Codes.{most_cycles};
 ghost use Rattle.rules.specs.Valid.{cycle_check};
 ghost use Rattle.rulebook.specs.Step.{judge_of};
@@ -12,7 +11,6 @@ ghost use Rattle.streams.specs.Turns.{Lined, over};
 ghost use Rattle.streams.specs.Breaches.{Formed};
 ghost use Rattle.traces.specs.Stops.{NotTaken};
 
-use formats::TraceRead;
 use rules::{Cycle, Refusal};
 use streams::{Flow, JudgeStretch, Tally};
 
@@ -25,7 +23,7 @@ struct Gone {
 
 // A cycle that the judge takes: its breach lines are written.
 fn go(b: Tally, c: Cycle, out: &mut [u8]) -> Gone
-    requires { Formed b × (b.judge.count < most_cycles) × (cycle_check b.judge.n c ≡ Good) × (315 ≤ length out.old) }
+    requires { Formed b × (b.judge.count < most_cycles) × (cycle_check b.judge.n c ≡ Ok tt) × (315 ≤ length out.old) }
     ensures { Lined b (judged_to (judge_of b.judge c).verdict (judge_of b.judge c) b 31) out.old result.written true result.tally out.new }
 {
     let j = b.judge;
@@ -50,9 +48,9 @@ fn stop(b: Tally, rest: &[u8], out: &mut [u8]) -> usize
 {
     let j = b.judge;
     match lines::read_trace(j.n, rest, 0) {
-        TraceRead::Line(_, _) => reports::put_refused(j.count + 2, Refusal::Full, out),
-        TraceRead::NoMore => reports::put_end(j.count, b.breaches, out),
-        TraceRead::Refused(r) => reports::put_refused(j.count + 2, r, out),
+        Ok(Some((_, _))) => reports::put_refused(j.count + 2, Refusal::Full, out),
+        Ok(None) => reports::put_end(j.count, b.breaches, out),
+        Err(r) => reports::put_refused(j.count + 2, r, out),
     }
 }
 

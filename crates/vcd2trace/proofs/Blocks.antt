@@ -7,6 +7,7 @@
 --   kept_went  == a read, of which some bytes are taken and the rest is kept: the program went on, or it ends
 --   formed_on  == a program that went on stays well formed, and is nearer to its end
 --   begun_formed, begins, refuses == a header that is accepted begins before cycle 0; one that is refused ends the program
+use Rattle.std.specs.Prelude.{Err, Ok}
 use Prim.Native.Nat.{ℕ, ◌+◌, ◌*◌, ◌-◌, ◌≤◌, ◌<◌}
 use mathlib.Core.Path.{◌≡◌, refl, sym, ◌∙◌, ap}
 use mathlib.Core.Bool.{Bool, true, false, ◌&&◌, cond, true≢false, false≢true}
@@ -20,8 +21,7 @@ use Rattle.rules.specs.declared.Refusal.{Refusal}
 use Rattle.rules.specs.Codes.{fewest_masters, most_masters, most_cycles}
 use Rattle.rules.proofs.Choice.{and_left, and_right}
 use Rattle.formats.specs.declared.Word.TheVariants.{Trace}
-use Rattle.formats.specs.declared.HeaderRead.{HeaderRead}
-use Rattle.formats.specs.declared.HeaderRead.TheVariants.{Header, Refused as Unread}
+use Rattle.formats.specs.Results.{HeaderRead}
 use Rattle.formats.specs.Headers.{header}
 use Rattle.streams.specs.Streams.{Stretch, on, done}
 use Rattle.streams.specs.Stays.{kept}
@@ -132,7 +132,7 @@ module _ (head : List ℕ) (block room : ℕ) (a : Converted) (is : a ≡ undump
     fails true n p = absurd (true≢false p)
     fails false n p = refl
 
-    ends : (given : Bool) (h : HeaderRead) (r : Refusal) → h ≡ Unread r → e ≡ cond given ending.Refused ending.Unwritten
+    ends : (given : Bool) (h : HeaderRead) (r : Refusal) → h ≡ Err r → e ≡ cond given ending.Refused ending.Unwritten
         → Begins no_breach undump_turn Parted begun_with e h
     ends true h r q p = rw q (refused p)
     ends false h r q p = unwritten p
@@ -141,23 +141,23 @@ module _ (head : List ℕ) (block room : ℕ) (a : Converted) (is : a ≡ undump
     begun_formed g = go (read_dump_header_of head) refl
       where
         go : (h : HeaderRead) → read_dump_header_of head ≡ h → position_formed t ≡ true
-        go (Header n next) q =
+        go (Ok (n, next)) q =
             let ok = undump_head_good head n next q in
             let few = leb-true fewest_masters n (and_left (leb fewest_masters n) (leb n most_masters) ok) in
             let many = leb-true n most_masters (and_right (leb fewest_masters n) (leb n most_masters) ok) in
-            rw (sorted (Header n next) q).1 (undump_stays_formed.0 n few many)
-        go (Unread r) q = let c = (sorted (Unread r) q).0 in stops c.given (sym c.flow ∙ g)
+            rw (sorted (Ok (n, next)) q).1 (undump_stays_formed.0 n few many)
+        go (Err r) q = let c = (sorted (Err r) q).0 in stops c.given (sym c.flow ∙ g)
 
     pub begins : (f : Ending) → goes ≡ true → Ran no_breach undump_turn Parted t f → Begins no_breach undump_turn Parted begun_with f (read_dump_header_of head)
     begins f g ran = go (read_dump_header_of head) refl
       where
         go : (h : HeaderRead) → read_dump_header_of head ≡ h → Begins no_breach undump_turn Parted begun_with f (read_dump_header_of head)
-        go (Header n next) q = rw q (begun (rw (sorted (Header n next) q).1 at ran))
-        go (Unread r) q = let c = (sorted (Unread r) q).0 in stops c.given (sym c.flow ∙ g)
+        go (Ok (n, next)) q = rw q (begun (rw (sorted (Ok (n, next)) q).1 at ran))
+        go (Err r) q = let c = (sorted (Err r) q).0 in stops c.given (sym c.flow ∙ g)
 
     pub refuses : goes ≡ false → Begins no_breach undump_turn Parted begun_with e (read_dump_header_of head)
     refuses g = go (read_dump_header_of head) refl
       where
         go : (h : HeaderRead) → read_dump_header_of head ≡ h → Begins no_breach undump_turn Parted begun_with e (read_dump_header_of head)
-        go (Header n next) q = let c = (sorted (Header n next) q).0 in unwritten (c.ending ∙ fails c.given n (sym c.flow ∙ g))
-        go (Unread r) q = let c = (sorted (Unread r) q).0 in ends c.given (read_dump_header_of head) r q c.ending
+        go (Ok (n, next)) q = let c = (sorted (Ok (n, next)) q).0 in unwritten (c.ending ∙ fails c.given n (sym c.flow ∙ g))
+        go (Err r) q = let c = (sorted (Err r) q).0 in ends c.given (read_dump_header_of head) r q c.ending

@@ -3,6 +3,7 @@
 --   codes_rise   == the codes of the variables rise
 --   valid_within == their widths hold the values of a valid cycle
 --   values_cycle == eleven values are those of their cycle
+use Rattle.std.specs.Prelude.{Ok}
 use Prim.Native.Nat.{ℕ, suc, ◌+◌, ◌≤◌, ◌<◌}
 use mathlib.Core.Path.{◌≡◌, sym, ◌∙◌}
 use mathlib.Core.List.{List, [], ◌∷◌}
@@ -10,7 +11,6 @@ use native.Mathlib.Omega.{arith}
 use borrow.Author.Tests.{leb-false}
 use lib.ListN.{length}
 use lib.Seq.{take_all}
-use Rattle.rules.specs.declared.Check.TheVariants.{Good}
 use Rattle.rules.specs.declared.Cycle.{Cycle}
 use Rattle.rules.specs.Codes.{most_masters}
 use Rattle.rules.specs.Valid.{inputs_too_large, outputs_too_large, cycle_check}
@@ -36,7 +36,7 @@ rising_codes k (c ∷ cs) few many =
 pub codes_rise : Coded variables
 codes_rise = rising_codes 33 cycle_columns (omega arith) (omega arith)
 
-pub valid_within : (n : ℕ) (c : Cycle) → n ≤ most_masters → cycle_check n c ≡ Good → Within variables (cycle_values c)
+pub valid_within : (n : ℕ) (c : Cycle) → n ≤ most_masters → cycle_check n c ≡ Ok tt → Within variables (cycle_values c)
 valid_within n c many e =
     let p = cycle_passed n c e in
     let inputs = inputs_small c.inputs (or_left (inputs_too_large c.inputs) (outputs_too_large c.outputs) p.value) in

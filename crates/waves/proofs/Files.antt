@@ -3,6 +3,7 @@
 --   steps_read  == written steps read back, with fuel for one more
 --   steps_write == steps that come to the end write back as the bytes from their start on, with fuel for every byte
 --   dump_reads, dump_writes == the two round trips of a dump
+use Rattle.std.specs.Prelude.{Err, None, Ok, Some}
 use Prim.Native.Nat.{ℕ, zero, suc, ◌+◌, ◌≤◌, ◌<◌}
 use mathlib.Core.Path.{◌≡◌, refl, sym, ◌∙◌, ap, ap₂}
 use mathlib.Core.Logic.{inl, inr}
@@ -13,10 +14,7 @@ use lib.ListN.{length, drop, length-append, take-append-drop, drop_of_length-le}
 use lib.Seq.{drop-drop, drop-length}
 use Rattle.rules.specs.declared.Cycle.{Cycle}
 use Rattle.rules.specs.Codes.{most_cycles}
-use Rattle.formats.specs.declared.HeaderRead.{HeaderRead}
-use Rattle.formats.specs.declared.HeaderRead.TheVariants as head
-use Rattle.formats.specs.declared.TraceRead.{TraceRead}
-use Rattle.formats.specs.declared.TraceRead.TheVariants.{Line, NoMore, Refused}
+use Rattle.formats.specs.Results.{HeaderRead, TraceRead}
 use Rattle.formats.specs.Files.{File, complete, refused_at}
 use Rattle.formats.specs.Promises.{InRange, Each, ValidCycle}
 use Rattle.waves.specs.Header.{dump_header, read_dump_header_of}
@@ -58,7 +56,7 @@ module _ (n : ℕ) (range : InRange n) (s : List ℕ) where
   steps_read (c ∷ cs) (suc k) t prev pre e all few fuel =
       let step : List ℕ = dump_step prev t c in
       let post : List ℕ = steps_of c (suc t) cs in
-      let first : read_step_of n t prev s (length pre) ≡ Line c (length pre + length step) =
+      let first : read_step_of n t prev s (length pre) ≡ Ok (Some (c, length pre + length step)) =
       rw e (step_reads prev t c n pre post range (omega arith) all.0 (steps_end c (suc t) cs)) in
       let there : s ≡ (pre ++ step) ++ post = e ∙ sym (append_assoc pre step post) in
       let rest : steps_from k n (suc t) c s (length pre + length step) ≡ complete n cs =
@@ -85,11 +83,11 @@ before_elim c (refused_at k r) n cs e go = absurd (false≢true (ap is_complete 
 -- steps that come to the end begin with a step, or there is none
 onward_elim : {P : Type 0} (r : TraceRead) (m : ℕ) (s : List ℕ) (p : ℕ) (more : Cycle → ℕ → File Cycle) (n : ℕ) (cs : List Cycle)
     → onward r m s p more ≡ complete n cs
-    → ((c : Cycle) (next : ℕ) (ds : List Cycle) → r ≡ Line c next → more c next ≡ complete n ds → cs ≡ c ∷ ds → P)
-    → (r ≡ NoMore → m ≡ n → cs ≡ [] → P) → P
-onward_elim (Line c next) m s p more n cs e go end = before_elim c (more c next) n cs e (λ ds q l. go c next ds refl q l)
-onward_elim NoMore m s p more n cs e go end = end refl (cc) (cc)
-onward_elim (Refused r) m s p more n cs e go end = absurd (false≢true (ap is_complete e))
+    → ((c : Cycle) (next : ℕ) (ds : List Cycle) → r ≡ Ok (Some (c, next)) → more c next ≡ complete n ds → cs ≡ c ∷ ds → P)
+    → (r ≡ Ok None → m ≡ n → cs ≡ [] → P) → P
+onward_elim (Ok (Some (c, next))) m s p more n cs e go end = before_elim c (more c next) n cs e (λ ds q l. go c next ds refl q l)
+onward_elim (Ok None) m s p more n cs e go end = end refl (cc) (cc)
+onward_elim (Err r) m s p more n cs e go end = absurd (false≢true (ap is_complete e))
 
 pub record StepsWrote (n t : ℕ) (prev : Cycle) (s : List ℕ) (p m : ℕ) (cs : List Cycle) : Type 0 where
   pub masters : n ≡ m
@@ -120,9 +118,9 @@ steps_write (suc k) n t prev s p m cs fuel early e =
     (record { masters = same; bytes = sym (drop-length s); valid = tt; few = omega arith }))
 
 header_elim : {P : Type 0} (h : HeaderRead) (s : List ℕ) (n : ℕ) (cs : List Cycle) → after_header h s ≡ complete n cs
-    → ((m p : ℕ) → h ≡ head.Header m p → steps_from (suc (length s)) m 0 no_cycle s p ≡ complete n cs → P) → P
-header_elim (head.Header m p) s n cs e go = go m p refl e
-header_elim (head.Refused r) s n cs e go = absurd (false≢true (ap is_complete e))
+    → ((m p : ℕ) → h ≡ Ok (m, p) → steps_from (suc (length s)) m 0 no_cycle s p ≡ complete n cs → P) → P
+header_elim (Ok (m, p)) s n cs e go = go m p refl e
+header_elim (Err r) s n cs e go = absurd (false≢true (ap is_complete e))
 
 pub record DumpWrote (s : List ℕ) (n : ℕ) (cs : List Cycle) : Type 0 where
   pub masters : InRange n

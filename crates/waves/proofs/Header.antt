@@ -2,6 +2,7 @@
 --
 --   header_reads  == a written header reads back, whatever comes after it
 --   header_writes == a header that was read writes back as the bytes that stood there
+use Rattle.std.specs.Prelude.{Err, Ok}
 use Prim.Native.Nat.{ℕ, suc, ◌+◌, ◌-◌, ◌*◌, ◌/◌, ◌%◌, ◌≤◌, ◌<◌}
 use mathlib.Core.Path.{◌≡◌, refl, sym, ◌∙◌, ap, ap₂}
 use mathlib.Core.Bool.{Bool, true, false, false≢true}
@@ -11,10 +12,10 @@ use native.Mathlib.Omega.{arith}
 use borrow.Author.Tests.{eqb-false, ne_eqb, not-true}
 use lib.ListN.{length, get_or, take, drop, length-append}
 use lib.Seq.{take_at, drop-cons, drop-append-add, get_or-append_seam, get_or-append-add}
+use Rattle.rules.proofs.Parts.{ok_parts}
 use Rattle.rules.specs.State.{masters_ok}
 use Rattle.rules.proofs.Choice.{cond_elim, order, and_left, and_right}
-use Rattle.formats.specs.declared.HeaderRead.{HeaderRead}
-use Rattle.formats.specs.declared.HeaderRead.TheVariants.{Header, Refused}
+use Rattle.formats.specs.Results.{HeaderRead}
 use Rattle.formats.specs.Digits.{decimal}
 use Rattle.formats.specs.Headers.{ranged}
 use Rattle.formats.specs.Texts.{bytes}
@@ -34,13 +35,13 @@ closing_head = refl
 closing_some : 0 < length closing
 closing_some = present closing 0 (omega (arith, closing_head))
 
-ranged_ok : (m n p next : ℕ) → m ≡ n → p ≡ next → masters_ok n ≡ true → ranged m p ≡ Header n next
+ranged_ok : (m n p next : ℕ) → m ≡ n → p ≡ next → masters_ok n ≡ true → ranged m p ≡ Ok (n, next)
 ranged_ok m n p next e f ok = rw (e, f, ok)
 
 -- a header with the digits ds is read where its number is
 reads_digits : (n : ℕ) (ds rest : List ℕ) → decimal n ≡ ds
-    → masters_in (opening ++ (ds ++ (closing ++ rest))) (length opening) ≡ Header n (length opening + length (ds ++ closing))
-    → read_dump_header_of (dump_header n ++ rest) ≡ Header n (length (dump_header n))
+    → masters_in (opening ++ (ds ++ (closing ++ rest))) (length opening) ≡ Ok (n, length opening + length (ds ++ closing))
+    → read_dump_header_of (dump_header n ++ rest) ≡ Ok (n, length (dump_header n))
 unfolding read_dump_header_of dump_header
 reads_digits n ds rest d e =
     rw (
@@ -52,7 +53,7 @@ reads_digits n ds rest d e =
     ) e
 
 in_one : (t rest : List ℕ) (n : ℕ) → n < 10 → masters_ok n ≡ true
-    → masters_in (t ++ ((48 + n) ∷ (closing ++ rest))) (length t) ≡ Header n (length t + suc (length closing))
+    → masters_in (t ++ ((48 + n) ∷ (closing ++ rest))) (length t) ≡ Ok (n, length t + suc (length closing))
 unfolding masters_in
 in_one t rest n h ok =
     rw (
@@ -64,7 +65,7 @@ in_one t rest n h ok =
     (ranged_ok (48 + n - 48) n (length t + 1 + length closing) (length t + suc (length closing)) (omega arith) (omega arith) ok)
 
 in_two : (t rest : List ℕ) (n : ℕ) → 10 ≤ n → n < 100 → masters_ok n ≡ true
-    → masters_in (t ++ ((48 + n / 10) ∷ ((48 + n % 10) ∷ (closing ++ rest)))) (length t) ≡ Header n (length t + suc (suc (length closing)))
+    → masters_in (t ++ ((48 + n / 10) ∷ ((48 + n % 10) ∷ (closing ++ rest)))) (length t) ≡ Ok (n, length t + suc (suc (length closing)))
 unfolding masters_in
 in_two t rest n h k ok =
     let high : ℕ = 48 + n / 10 in
@@ -85,7 +86,7 @@ in_two t rest n h k ok =
     )
     (ranged_ok ((high - 48) * 10 + (low - 48)) n (length t + 2 + length closing) (length t + suc (suc (length closing))) (omega arith) (omega arith) ok)
 
-pub header_reads : (n : ℕ) (rest : List ℕ) → InRange n → read_dump_header_of (dump_header n ++ rest) ≡ Header n (length (dump_header n))
+pub header_reads : (n : ℕ) (rest : List ℕ) → InRange n → read_dump_header_of (dump_header n ++ rest) ≡ Ok (n, length (dump_header n))
 header_reads n rest range =
     order 10 n
     (λ two.
@@ -116,13 +117,13 @@ two_is : (s : List ℕ) (p : ℕ) → two_digits s p ≡ true → Two s p
 two_is s p e = search (and_left, and_right, eqb-false, not-true) depth 9
 
 abbrev is_header : HeaderRead → Bool
-is_header (Header n next) = true
-is_header (Refused r) = false
+is_header (Ok (n, next)) = true
+is_header (Err r) = false
 
-ranged_is : (m q n next : ℕ) → ranged m q ≡ Header n next → InRange m × (m ≡ n) × (q ≡ next)
+ranged_is : (m q n next : ℕ) → ranged m q ≡ Ok (n, next) → InRange m × (m ≡ n) × (q ≡ next)
 ranged_is m q n next =
-    cond_elim (λ r. r ≡ Header n next → InRange m × (m ≡ n) × (q ≡ next)) (masters_ok m)
-    (λ ok e. (ok_range m ok, cc, cc))
+    cond_elim (λ r. r ≡ Ok (n, next) → InRange m × (m ≡ n) × (q ≡ next)) (masters_ok m)
+    (λ ok e. (ok_range m ok, (ok_parts e).0, (ok_parts e).1))
     (λ ok e. absurd (false≢true (ap is_header e)))
 
 -- after the opening stand the digits of n, the closing, and whatever follows
@@ -150,7 +151,7 @@ module _ (s : List ℕ) (n next : ℕ) (starts : begins s opening ≡ true) wher
   abbrev p : ℕ
   p = length opening
 
-  wrote_one : One s p → ranged (get_or s p 0 - 48) (p + 1 + length closing) ≡ Header n next → HeaderWrote s n next
+  wrote_one : One s p → ranged (get_or s p 0 - 48) (p + 1 + length closing) ≡ Ok (n, next) → HeaderWrote s n next
   wrote_one o e =
       let a : ℕ = get_or s p 0 in
       let r = ranged_is (a - 48) (p + 1 + length closing) n next e in
@@ -161,7 +162,7 @@ module _ (s : List ℕ) (n next : ℕ) (starts : begins s opening ≡ true) wher
       let past : p + (1 + length closing) ≡ p + 1 + length closing = omega arith in
       rw (← r.1, ← r.2, ← past) (wrote s (a - 48) (a ∷ []) rest starts r.0 d stands)
 
-  wrote_two : Two s p → ranged ((get_or s p 0 - 48) * 10 + (get_or s (p + 1) 0 - 48)) (p + 2 + length closing) ≡ Header n next
+  wrote_two : Two s p → ranged ((get_or s p 0 - 48) * 10 + (get_or s (p + 1) 0 - 48)) (p + 2 + length closing) ≡ Ok (n, next)
       → HeaderWrote s n next
   wrote_two o e =
       let a : ℕ = get_or s p 0 in
@@ -183,7 +184,7 @@ module _ (s : List ℕ) (n next : ℕ) (starts : begins s opening ≡ true) wher
       let past : p + (2 + length closing) ≡ p + 2 + length closing = omega arith in
       rw (← r.1, ← r.2, ← past) (wrote s m (a ∷ (b ∷ [])) rest starts r.0 d stands)
 
-pub header_writes : (s : List ℕ) (n next : ℕ) → read_dump_header_of s ≡ Header n next → HeaderWrote s n next
+pub header_writes : (s : List ℕ) (n next : ℕ) → read_dump_header_of s ≡ Ok (n, next) → HeaderWrote s n next
 unfolding read_dump_header_of masters_in
 header_writes s n next =
     cond_elim Written (begins s opening)
@@ -197,4 +198,4 @@ header_writes s n next =
     (λ other e. absurd (false≢true (ap is_header e)))
   where
     Written : HeaderRead → Type 0
-    Written r = r ≡ Header n next → HeaderWrote s n next
+    Written r = r ≡ Ok (n, next) → HeaderWrote s n next

@@ -9,6 +9,7 @@
 --   lines_append      == the lines of two texts, one after the other
 --   changed all vs us == how many values are written
 --   lines_of_step     == a step has a line for each of them, and that of its time
+use Rattle.std.specs.Prelude.{Err, None, Ok, Some}
 use Prim.Native.Nat.{ℕ, ◌+◌, ◌≤◌, ◌<◌}
 use mathlib.Core.Path.{◌≡◌, refl, sym, ◌∙◌, ap, ap₂}
 use mathlib.Core.Bool.{Bool, true, false, not, ◌||◌, cond, true≢false}
@@ -18,13 +19,11 @@ use native.Mathlib.Omega.{arith}
 use borrow.Author.Tests.{le-ltb, eq-eqb, ne_eqb, eqb-true, eqb-false}
 use lib.Dec.{eqb, ltb}
 use lib.ListN.{length, get_or, drop, length-append, length-drop}
-use Rattle.rules.specs.declared.Check.{Check}
-use Rattle.rules.specs.declared.Check.TheVariants.{Good, Bad}
+use Rattle.rules.specs.Results.{Check}
 use Rattle.rules.specs.declared.Cycle.{Cycle}
 use Rattle.rules.specs.State.{masters_ok}
 use Rattle.rules.proofs.Choice.{cond_elim, either}
-use Rattle.formats.specs.declared.TraceRead.{TraceRead}
-use Rattle.formats.specs.declared.TraceRead.TheVariants.{Line, NoMore, Refused}
+use Rattle.formats.specs.Results.{TraceRead}
 use Rattle.formats.specs.Digits.{lf, decimal}
 use Rattle.formats.specs.Columns.{cycle_values}
 use Rattle.formats.specs.Lines.{line_check}
@@ -67,7 +66,7 @@ module _ (n t : ℕ) (prev : Cycle) where
   pub near_long : (a b : List ℕ) → 104 < length a → read_step_of n t prev (a ++ b) 0 ≡ read_step_of n t prev a 0
   near_long a b h = same_step a b (omega arith) (up_to_long most_bytes a b h)
 
-  pub near_next : (s : List ℕ) (c : Cycle) (next : ℕ) → read_step_of n t prev s 0 ≡ Line c next
+  pub near_next : (s : List ℕ) (c : Cycle) (next : ℕ) → read_step_of n t prev s 0 ≡ Ok (Some (c, next))
       → (3 ≤ next) × (next ≤ length s) × (next ≤ 104) × Ends (drop next s)
   near_next s c next e =
       let r = step_writes n t prev s 0 c next e in (
@@ -78,13 +77,13 @@ module _ (n t : ℕ) (prev : Cycle) where
       )
 
 abbrev pub moved : ℕ → TraceRead → TraceRead
-moved p (Line c next) = Line c (p + next)
-moved p NoMore = NoMore
-moved p (Refused r) = Refused r
+moved p (Ok (Some (c, next))) = Ok (Some (c, p + next))
+moved p (Ok None) = Ok None
+moved p (Err r) = Err r
 
 checked_moved : (p : ℕ) (k : Check) (c : Cycle) (m : ℕ) → step_checked k c (p + m) ≡ moved p (step_checked k c m)
-checked_moved p Good c m = refl
-checked_moved p (Bad r) c m = refl
+checked_moved p (Ok _) c m = refl
+checked_moved p (Err r) c m = refl
 
 module _ (n t : ℕ) (prev : Cycle) where
   in_moved : (p : ℕ) (s : List ℕ) (m : ℕ) → step_in n t prev s (p + m) ≡ moved p (step_in n t prev s m)
@@ -117,13 +116,13 @@ module _ (n t : ℕ) (prev : Cycle) where
 
 -- a step that stands there is one, or is refused
 abbrev is_more : TraceRead → Bool
-is_more (Line c next) = true
-is_more NoMore = false
-is_more (Refused r) = true
+is_more (Ok (Some (c, next))) = true
+is_more (Ok None) = false
+is_more (Err r) = true
 
 checked_more : (k : Check) (c : Cycle) (m : ℕ) → is_more (step_checked k c m) ≡ true
-checked_more Good c m = refl
-checked_more (Bad r) c m = refl
+checked_more (Ok _) c m = refl
+checked_more (Err r) c m = refl
 
 module _ (n t : ℕ) (prev : Cycle) where
   in_more : (s : List ℕ) (m : ℕ) → is_more (step_in n t prev s m) ≡ true
@@ -139,12 +138,12 @@ module _ (n t : ℕ) (prev : Cycle) where
       More : TraceRead → Type 0
       More r = is_more r ≡ true
 
-  pub end_reads : (s : List ℕ) → InRange n → read_step_of n t prev s (length s) ≡ NoMore
+  pub end_reads : (s : List ℕ) → InRange n → read_step_of n t prev s (length s) ≡ Ok None
   unfolding read_step_of
   end_reads s range =
       rw (range_ok n range, le-ltb (length s) (length s) (omega arith), eq-eqb (length s) (length s) refl)
 
-  pub end_read : (s : List ℕ) (p : ℕ) → read_step_of n t prev s p ≡ NoMore → p ≡ length s
+  pub end_read : (s : List ℕ) (p : ℕ) → read_step_of n t prev s p ≡ Ok None → p ≡ length s
   unfolding read_step_of
   end_read s p =
       cond_elim Ended (masters_ok n)
@@ -154,9 +153,9 @@ module _ (n t : ℕ) (prev : Cycle) where
       (λ bad e. never e refl)
     where
       Ended : TraceRead → Type 0
-      Ended r = r ≡ NoMore → p ≡ length s
+      Ended r = r ≡ Ok None → p ≡ length s
 
-      never : {r : TraceRead} → r ≡ NoMore → is_more r ≡ true → p ≡ length s
+      never : {r : TraceRead} → r ≡ Ok None → is_more r ≡ true → p ≡ length s
       never e more = absurd (true≢false (sym more ∙ ap is_more e))
 
 pub lines_append : (a b : List ℕ) → lines_in (a ++ b) ≡ lines_in a + lines_in b

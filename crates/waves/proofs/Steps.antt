@@ -2,6 +2,7 @@
 --
 --   step_reads  == a written step reads back, at any position, where a step ends after it
 --   step_writes == what was read writes back as the bytes that stood there
+use Rattle.std.specs.Prelude.{Err, None, Ok, Some}
 use Prim.Native.Nat.{ℕ, ◌+◌, ◌≤◌, ◌<◌}
 use mathlib.Core.Path.{◌≡◌, refl, sym, ◌∙◌, ap, subst}
 use mathlib.Core.Bool.{Bool, true, false, true≢false, false≢true}
@@ -11,14 +12,13 @@ use borrow.Author.Tests.{le-ltb, ne_eqb}
 use lib.Dec.{eqb}
 use lib.ListN.{length, take, drop, length-append, length-drop}
 use lib.Seq.{drop-append_seam, take-append_seam, drop-drop}
-use Rattle.rules.specs.declared.Check.{Check}
-use Rattle.rules.specs.declared.Check.TheVariants.{Good, Bad}
+use Rattle.rules.proofs.Parts.{line_parts}
+use Rattle.rules.specs.Results.{Check}
 use Rattle.rules.specs.declared.Cycle.{Cycle}
 use Rattle.rules.specs.Codes.{most_cycles}
 use Rattle.rules.specs.State.{masters_ok}
 use Rattle.rules.proofs.Choice.{cond_elim, and_left, and_right, and_both}
-use Rattle.formats.specs.declared.TraceRead.{TraceRead}
-use Rattle.formats.specs.declared.TraceRead.TheVariants.{Line, NoMore, Refused}
+use Rattle.formats.specs.Results.{TraceRead}
 use Rattle.formats.specs.Columns.{cycle_values}
 use Rattle.formats.specs.Lines.{line_check}
 use Rattle.formats.specs.Promises.{InRange, ValidCycle}
@@ -58,7 +58,7 @@ module _ (prev : Cycle) (t : ℕ) (c : Cycle) where
         changes_values (eqb t 0) variables (cycle_values prev) (cycle_values c) codes_rise refl small,
       )
 
-  written_in : (n next : ℕ) → InRange n → t < most_cycles → ValidCycle n c → step_in n t prev (dump_step prev t c) next ≡ Line c next
+  written_in : (n next : ℕ) → InRange n → t < most_cycles → ValidCycle n c → step_in n t prev (dump_step prev t c) next ≡ Ok (Some (c, next))
   unfolding step_in dump_step
   written_in n next range h valid =
       let small = valid_within n c range.many valid in
@@ -73,7 +73,7 @@ module _ (prev : Cycle) (t : ℕ) (c : Cycle) where
       )
 
   pub step_reads : (n : ℕ) (pre post : List ℕ) → InRange n → t < most_cycles → ValidCycle n c → Ends post
-      → read_step_of n t prev (pre ++ (dump_step prev t c ++ post)) (length pre) ≡ Line c (length pre + length (dump_step prev t c))
+      → read_step_of n t prev (pre ++ (dump_step prev t c ++ post)) (length pre) ≡ Ok (Some (c, length pre + length (dump_step prev t c)))
   unfolding read_step_of
   step_reads n pre post range h valid ends =
       let step : List ℕ = dump_step prev t c in
@@ -90,9 +90,9 @@ module _ (prev : Cycle) (t : ℕ) (c : Cycle) where
       (written_in n (length pre + length step) range h valid)
 
 abbrev is_line : TraceRead → Bool
-is_line (Line c next) = true
-is_line NoMore = false
-is_line (Refused r) = false
+is_line (Ok (Some (c, next))) = true
+is_line (Ok None) = false
+is_line (Err r) = false
 
 -- what the tests of a step leave
 record Passed (n t : ℕ) (prev : Cycle) (s : List ℕ) (c : Cycle) : Type 0 where
@@ -103,14 +103,14 @@ record Passed (n t : ℕ) (prev : Cycle) (s : List ℕ) (c : Cycle) : Type 0 whe
 
 module _ (n t : ℕ) (prev : Cycle) (s : List ℕ) (m : ℕ) (c : Cycle) (next : ℕ) where
   abbrev Reads : TraceRead → Type 0
-  Reads r = r ≡ Line c next → Passed n t prev s c × (m ≡ next)
+  Reads r = r ≡ Ok (Some (c, next)) → Passed n t prev s c × (m ≡ next)
 
   never : {r : TraceRead} → is_line r ≡ false → Reads r
   never other e = absurd (true≢false (sym (ap is_line e) ∙ other))
 
-  checked : (k : Check) (b : Cycle) → step_checked k b m ≡ Line c next → (k ≡ Good) × (b ≡ c) × (m ≡ next)
-  checked Good b e = (refl, cc, cc)
-  checked (Bad r) b e = absurd (false≢true (ap is_line e))
+  checked : (k : Check) (b : Cycle) → step_checked k b m ≡ Ok (Some (c, next)) → (k ≡ Ok tt) × (b ≡ c) × (m ≡ next)
+  checked (Ok _) b e = let p = line_parts e in (refl, p.0, p.1)
+  checked (Err r) b e = absurd (false≢true (ap is_line e))
 
   in_passed : Reads (step_in n t prev s m)
   unfolding step_in
@@ -121,7 +121,7 @@ module _ (n t : ℕ) (prev : Cycle) (s : List ℕ) (m : ℕ) (c : Cycle) (next :
       cond_elim Reads (step_shaped t prev s)
       (λ shape e.
       let k = checked (line_check n (step_cycle t prev s)) (step_cycle t prev s) e in
-      let good : line_check n c ≡ Good = rw k.1 at k.0 in
+      let good : line_check n c ≡ (Ok tt) = rw k.1 at k.0 in
       (record { early = early; shape = shape; same = k.1; valid = line_valid n c good }, k.2))
       (λ none. never refl))))
 
@@ -184,7 +184,7 @@ module _ (n t : ℕ) (prev : Cycle) (s : List ℕ) (p : ℕ) (c : Cycle) (next :
         ends = subst Ends (drop-drop (length text) p s ∙ ap (λ k. drop k s) at) (up_to_ends most_bytes (drop p s) few);
       }
 
-  pub step_writes : read_step_of n t prev s p ≡ Line c next → StepIs n t prev s p c next
+  pub step_writes : read_step_of n t prev s p ≡ Ok (Some (c, next)) → StepIs n t prev s p c next
   unfolding read_step_of
   step_writes =
       cond_elim Written (masters_ok n)
@@ -196,4 +196,4 @@ module _ (n t : ℕ) (prev : Cycle) (s : List ℕ) (p : ℕ) (c : Cycle) (next :
       (λ bad e. absurd (false≢true (ap is_line e)))
     where
       Written : TraceRead → Type 0
-      Written r = r ≡ Line c next → StepIs n t prev s p c next
+      Written r = r ≡ Ok (Some (c, next)) → StepIs n t prev s p c next

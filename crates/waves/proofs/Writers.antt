@@ -4,6 +4,7 @@
 --   step_passes, step_fits == and a step
 --   refused_kept       == a refused writer leaves the buffer as it was
 --   writes_all, written_reads, read_writes == the other promises of the writers
+use Rattle.std.specs.Prelude.{Err, Ok, Some}
 use Prim.Native.Nat.{ℕ, ◌+◌, ◌≤◌, ◌<◌}
 use mathlib.Core.Path.{◌≡◌, refl, sym, ◌∙◌, ap}
 use mathlib.Core.List.{List, ◌++◌}
@@ -13,16 +14,13 @@ use lib.Dec.{leb}
 use lib.ListN.{length, take, drop}
 use Rattle.rules.specs.declared.Refusal.{Refusal}
 use Rattle.rules.specs.declared.Refusal.TheVariants as refusal
-use Rattle.rules.specs.declared.Check.{Check}
-use Rattle.rules.specs.declared.Check.TheVariants.{Good, Bad}
+use Rattle.rules.specs.Results.{Check}
 use Rattle.rules.specs.declared.Cycle.{Cycle}
 use Rattle.rules.specs.Codes.{most_cycles}
 use Rattle.rules.specs.State.{masters_ok}
 use Rattle.rules.specs.Valid.{cycle_check}
 use Rattle.rules.proofs.Choice.{cond_elim}
-use Rattle.formats.specs.declared.TraceRead.TheVariants.{Line}
-use Rattle.formats.specs.declared.Written.{Written}
-use Rattle.formats.specs.declared.Written.TheVariants.{Bytes, Refused}
+use Rattle.formats.specs.Results.{Written}
 use Rattle.formats.specs.Answers.{written_answer}
 use Rattle.formats.specs.Lines.{fitted, for_masters, left}
 use Rattle.formats.specs.Promises.{InRange, ValidCycle}
@@ -37,39 +35,39 @@ use Rattle.waves.proofs.Header.{header_reads, header_writes}
 use Rattle.waves.proofs.Steps.{step_reads, step_writes}
 
 -- a test that refuses answers no 0
-never : {P : Type 0} (r : Refusal) → written_answer (Refused r) ≡ 0 → P
+never : {P : Type 0} (r : Refusal) → written_answer (Err r) ≡ 0 → P
 never r e = absurd (omega (arith, refusal_some r, e))
 
-fitted_passes : (k : Check) (size room : ℕ) → written_answer (fitted k size room) ≡ 0 → (k ≡ Good) × (size ≤ room)
-fitted_passes Good size room =
-    below (λ a. written_answer a ≡ 0 → (Good ≡ Good) × (size ≤ room)) room size
+fitted_passes : (k : Check) (size room : ℕ) → written_answer (fitted k size room) ≡ 0 → (k ≡ Ok tt) × (size ≤ room)
+fitted_passes (Ok _) size room =
+    below (λ a. written_answer a ≡ 0 → (◌≡◌ {A = Check} (Ok tt) (Ok tt)) × (size ≤ room)) room size
     (λ short e. never refusal.Short e)
     (λ fits e. (refl, fits))
-fitted_passes (Bad r) size room = never r
+fitted_passes (Err r) size room = never r
 
 module _ {P : Type 0} where
-  bad : (r : Refusal) → Bad r ≡ Good → P
+  bad : (r : Refusal) → ◌≡◌ {A = Check} (Err r) (Ok tt) → P
   bad r e = let z : ◌≡◌ {A = ℕ} 0 1 = cc in absurd (omega arith)
 
-  masters_pass : (n : ℕ) (k : Check) → for_masters n k ≡ Good → (InRange n → k ≡ Good → P) → P
+  masters_pass : (n : ℕ) (k : Check) → for_masters n k ≡ Ok tt → (InRange n → k ≡ Ok tt → P) → P
   masters_pass n k =
-      cond_elim (λ c. c ≡ Good → (InRange n → k ≡ Good → P) → P) (masters_ok n)
+      cond_elim (λ c. c ≡ Ok tt → (InRange n → k ≡ Ok tt → P) → P) (masters_ok n)
       (λ ok e go. go (ok_range n ok) e)
       (λ none e go. bad refusal.Masters e)
 
-  time_passes : (t : ℕ) (k : Check) → in_time t k ≡ Good → (t < most_cycles → k ≡ Good → P) → P
+  time_passes : (t : ℕ) (k : Check) → in_time t k ≡ Ok tt → (t < most_cycles → k ≡ Ok tt → P) → P
   time_passes t k =
-      cond_elim (λ c. c ≡ Good → (t < most_cycles → k ≡ Good → P) → P) (leb most_cycles t)
+      cond_elim (λ c. c ≡ Ok tt → (t < most_cycles → k ≡ Ok tt → P) → P) (leb most_cycles t)
       (λ full e go. bad refusal.Full e)
       (λ early e go. go (leb-false most_cycles t early) e)
 
 header_passes : (n room : ℕ) → written_answer (write_dump_header_of n room) ≡ 0 → InRange n × (length (dump_header n) ≤ room)
 unfolding write_dump_header_of
 header_passes n room e =
-    let f = fitted_passes (for_masters n Good) (length (dump_header n)) room e in
-    masters_pass n Good f.0 (λ range good. (range, f.1))
+    let f = fitted_passes (for_masters n (Ok tt)) (length (dump_header n)) room e in
+    masters_pass n (Ok tt) f.0 (λ range good. (range, f.1))
 
-header_fits : (n room : ℕ) → InRange n → length (dump_header n) ≤ room → write_dump_header_of n room ≡ Bytes (length (dump_header n))
+header_fits : (n room : ℕ) → InRange n → length (dump_header n) ≤ room → write_dump_header_of n room ≡ Ok (length (dump_header n))
 unfolding write_dump_header_of
 header_fits n room range fits = rw (range_ok n range, le-ltb room (length (dump_header n)) fits)
 
@@ -83,7 +81,7 @@ module _ (n t : ℕ) (prev c : Cycle) (room : ℕ) where
       (λ range time_in_range. time_passes t (cycle_check n c) time_in_range (λ time good. (range, time, good, f.1)))
 
   step_fits : InRange n → t < most_cycles → ValidCycle n c → length (dump_step prev t c) ≤ room
-      → write_step_of n t prev c room ≡ Bytes (length (dump_step prev t c))
+      → write_step_of n t prev c room ≡ Ok (length (dump_step prev t c))
   unfolding write_step_of
   step_fits range time good fits =
       rw (range_ok n range, lt-leb most_cycles t time, good, le-ltb room (length (dump_step prev t c)) fits)
@@ -100,15 +98,15 @@ writes_all =
 
 -- the buffer after a writer that wrote, and how many bytes that was
 module _ (n : ℕ) (buffer : List ℕ) (k : ℕ) where
-  header_done : write_dump_header_of n (length buffer) ≡ Bytes k
+  header_done : write_dump_header_of n (length buffer) ≡ Ok k
       → (k ≡ length (dump_header n)) × (dump_header_written n buffer ≡ dump_header n ++ drop k buffer)
   unfolding write_dump_header_of dump_header_written
   header_done e =
-      let d = (writes (for_masters n Good) (dump_header n) buffer).done (ap written_answer e) in
+      let d = (writes (for_masters n (Ok tt)) (dump_header n) buffer).done (ap written_answer e) in
       let size : k ≡ length (dump_header n) = cc in
       (size, ap (λ (a : Written). left a (dump_header n) buffer) e)
 
-  step_done : (t : ℕ) (prev c : Cycle) → write_step_of n t prev c (length buffer) ≡ Bytes k
+  step_done : (t : ℕ) (prev c : Cycle) → write_step_of n t prev c (length buffer) ≡ Ok k
       → (k ≡ length (dump_step prev t c)) × (step_written n t prev c buffer ≡ dump_step prev t c ++ drop k buffer)
   unfolding write_step_of step_written
   step_done t prev c e =
@@ -128,7 +126,7 @@ written_reads =
           let p = step_passes n t prev c (length buffer) (ap written_answer e) in
           rw d.1
           (step_reads prev t c n pre (drop k buffer) p.0 p.1 p.2 ends
-          ∙ ap (λ i. Line c (length pre + i)) (sym d.0));
+          ∙ ap (λ i. Ok (Some (c, length pre + i))) (sym d.0));
     }
 
 pub read_writes : ReadIsWritten
@@ -137,22 +135,22 @@ read_writes =
       header = λ s n next buffer e room.
           let w = header_writes s n next e in
           let fits : length (dump_header n) ≤ length buffer = omega (arith, w.past) in
-          let a : write_dump_header_of n (length buffer) ≡ Bytes next = header_fits n (length buffer) w.range fits ∙ ap Bytes (sym w.past) in
+          let a : write_dump_header_of n (length buffer) ≡ Ok next = header_fits n (length buffer) w.range fits ∙ ap Ok (sym w.past) in
           (a, (header_done n buffer next a).1 ∙ ap (λ l. l ++ drop next buffer) w.bytes);
       step = λ n t prev s p c k buffer e room.
           let w = step_writes n t prev s p c (p + k) e in
           let size : length (dump_step prev t c) ≡ k = omega (arith, w.after) in
           let fits : length (dump_step prev t c) ≤ length buffer = omega arith in
-          let a : write_step_of n t prev c (length buffer) ≡ Bytes k =
-          step_fits n t prev c (length buffer) w.masters w.time w.valid fits ∙ ap Bytes size in
+          let a : write_step_of n t prev c (length buffer) ≡ Ok k =
+          step_fits n t prev c (length buffer) w.masters w.time w.valid fits ∙ ap Ok size in
           let bytes : dump_step prev t c ≡ take k (drop p s) = w.bytes ∙ ap (λ i. take i (drop p s)) size in
           (a, (step_done n buffer k t prev c a).1 ∙ ap (λ l. l ++ drop k buffer) bytes);
     }
 
 -- no bytes were written
 left_kept : (a : Written) (bytes buffer : List ℕ) → (written_answer a ≡ 0 → ⊥) → left a bytes buffer ≡ buffer
-left_kept (Bytes k) bytes buffer h = absurd (h refl)
-left_kept (Refused r) bytes buffer h = refl
+left_kept (Ok k) bytes buffer h = absurd (h refl)
+left_kept (Err r) bytes buffer h = refl
 
 pub refused_kept : BuffersKept
 unfolding dump_header_written step_written

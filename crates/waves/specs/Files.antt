@@ -3,12 +3,9 @@
 --   dump n cs   == the bytes of the dump of the cycles cs
 --   read_dump s == what reading a dump from its start to its end finds
 --   line_at s p == the line of the file in which the position p stands, the first being 1
-use Rattle.std.specs.Prelude.{ℕ, zero, suc, cond, List, [], ◌∷◌, ◌++◌, eqb, length, take}
+use Rattle.std.specs.Prelude.{ℕ, zero, suc, cond, List, [], ◌∷◌, ◌++◌, eqb, length, take, Err, None, Ok, Some}
 use Rattle.rules.specs.declared.Cycle.{Cycle}
-use Rattle.formats.specs.declared.HeaderRead.{HeaderRead}
-use Rattle.formats.specs.declared.HeaderRead.TheVariants as head
-use Rattle.formats.specs.declared.TraceRead.{TraceRead}
-use Rattle.formats.specs.declared.TraceRead.TheVariants.{Line, NoMore, Refused}
+use Rattle.formats.specs.Results.{HeaderRead, TraceRead}
 use Rattle.formats.specs.Digits.{lf}
 use Rattle.formats.specs.Files.{File, complete, refused_at}
 use Rattle.waves.specs.Header.{dump_header, read_dump_header_of}
@@ -43,9 +40,9 @@ before c (complete n cs) = complete n (c ∷ cs)
 before c (refused_at line r) = refused_at line r
 
 abbrev pub onward : TraceRead → ℕ → List ℕ → ℕ → (Cycle → ℕ → File Cycle) → File Cycle
-onward (Line c next) n s p more = before c (more c next)
-onward NoMore n s p more = complete n []
-onward (Refused r) n s p more = refused_at (line_at s p) r
+onward (Ok (Some (c, next))) n s p more = before c (more c next)
+onward (Ok None) n s p more = complete n []
+onward (Err r) n s p more = refused_at (line_at s p) r
 
 -- a step has bytes, so as many of them as the input has bytes come to its end
 unfoldable pub steps_from : ℕ → ℕ → ℕ → Cycle → List ℕ → ℕ → File Cycle
@@ -53,8 +50,8 @@ steps_from zero n t prev s p = complete n []
 steps_from (suc k) n t prev s p = onward (read_step_of n t prev s p) n s p (λ c next. steps_from k n (suc t) c s next)
 
 abbrev pub after_header : HeaderRead → List ℕ → File Cycle
-after_header (head.Header n p) s = steps_from (suc (length s)) n 0 no_cycle s p
-after_header (head.Refused r) s = refused_at 1 r
+after_header (Ok (n, p)) s = steps_from (suc (length s)) n 0 no_cycle s p
+after_header (Err r) s = refused_at 1 r
 
 unfoldable pub read_dump : List ℕ → File Cycle
 read_dump s = after_header (read_dump_header_of s) s

@@ -4,12 +4,9 @@
 --   begins s t            == s begins with t
 --   read_dump_header_of s == the answer of reading a header at the start of s
 --   write_dump_header_of, dump_header_written == the answer of writing one, and the buffer afterwards
-use Rattle.std.specs.Prelude.{ℕ, suc, ◌+◌, ◌-◌, ◌*◌, Bool, true, false, not, ◌&&◌, cond, List, [], ◌∷◌, ◌++◌, eqb, length, get_or, drop}
+use Rattle.std.specs.Prelude.{ℕ, suc, ◌+◌, ◌-◌, ◌*◌, Bool, true, false, not, ◌&&◌, cond, List, [], ◌∷◌, ◌++◌, eqb, length, get_or, drop, Err, Ok}
 use Rattle.rules.specs.declared.Refusal.TheVariants as refusal
-use Rattle.rules.specs.declared.Check.TheVariants.{Good}
-use Rattle.formats.specs.declared.HeaderRead.{HeaderRead}
-use Rattle.formats.specs.declared.HeaderRead.TheVariants.{Refused}
-use Rattle.formats.specs.declared.Written.{Written}
+use Rattle.formats.specs.Results.{HeaderRead, Written}
 use Rattle.formats.specs.Digits.{decimal}
 use Rattle.formats.specs.Columns.{Column, cycle_columns}
 use Rattle.formats.specs.Headers.{is_decimal, ranged}
@@ -60,13 +57,13 @@ masters_in s p =
     cond (one_digit s p) (ranged (get_or s p 0 - 48) (p + 1 + length closing))
     (cond (two_digits s p)
     (ranged ((get_or s p 0 - 48) * 10 + (get_or s (p + 1) 0 - 48)) (p + 2 + length closing))
-    (Refused refusal.Dump))
+    (Err refusal.Dump))
 
 unfoldable pub read_dump_header_of : List ℕ → HeaderRead
-read_dump_header_of s = cond (begins s opening) (masters_in s (length opening)) (Refused refusal.Dump)
+read_dump_header_of s = cond (begins s opening) (masters_in s (length opening)) (Err refusal.Dump)
 
 unfoldable pub write_dump_header_of : ℕ → ℕ → Written
-write_dump_header_of n room = fitted (for_masters n Good) (length (dump_header n)) room
+write_dump_header_of n room = fitted (for_masters n (Ok tt)) (length (dump_header n)) room
 
 unfoldable pub dump_header_written : ℕ → List ℕ → List ℕ
 dump_header_written n buffer = left (write_dump_header_of n (length buffer)) (dump_header n) buffer

@@ -2,12 +2,9 @@
 -- the same name in lower case with underscores.
 --
 --   Ends s             == a step ends before s: nothing follows it, or a line that begins with `#`
-use Rattle.std.specs.Prelude.{ℕ, ◌+◌, ◌≤◌, ◌<◌, ◌≡◌, ◌⊎◌, ◌↔◌, List, [], ◌++◌, length, get_or, take, drop}
+use Rattle.std.specs.Prelude.{ℕ, ◌+◌, ◌≤◌, ◌<◌, ◌≡◌, ◌⊎◌, ◌↔◌, List, [], ◌++◌, length, get_or, take, drop, Ok, Some}
 use Rattle.rules.specs.declared.Cycle.{Cycle}
 use Rattle.rules.specs.Codes.{most_cycles}
-use Rattle.formats.specs.declared.HeaderRead.TheVariants as head
-use Rattle.formats.specs.declared.TraceRead.TheVariants.{Line}
-use Rattle.formats.specs.declared.Written.TheVariants.{Bytes}
 use Rattle.formats.specs.Answers.{written_answer}
 use Rattle.formats.specs.Files.{complete}
 use Rattle.formats.specs.Promises.{InRange, Each, ValidCycle}
@@ -28,7 +25,7 @@ StepsAreShort = (prev : Cycle) (t : ℕ) (c : Cycle) → t < most_cycles → len
 abbrev pub WrittenStepReads : Type 0
 WrittenStepReads =
     (n t : ℕ) (prev c : Cycle) (pre post : List ℕ) → InRange n → t < most_cycles → ValidCycle n c → Ends post
-    → read_step_of n t prev (pre ++ (dump_step prev t c ++ post)) (length pre) ≡ Line c (length pre + length (dump_step prev t c))
+    → read_step_of n t prev (pre ++ (dump_step prev t c ++ post)) (length pre) ≡ Ok (Some (c, length pre + length (dump_step prev t c)))
 
 pub record StepIs (n t : ℕ) (prev : Cycle) (s : List ℕ) (p : ℕ) (c : Cycle) (next : ℕ) : Type 0 where
   pub masters : InRange n
@@ -41,17 +38,17 @@ pub record StepIs (n t : ℕ) (prev : Cycle) (s : List ℕ) (p : ℕ) (c : Cycle
 
 abbrev pub ReadStepWrites : Type 0
 ReadStepWrites =
-    (n t : ℕ) (prev : Cycle) (s : List ℕ) (p : ℕ) (c : Cycle) (next : ℕ) → read_step_of n t prev s p ≡ Line c next
+    (n t : ℕ) (prev : Cycle) (s : List ℕ) (p : ℕ) (c : Cycle) (next : ℕ) → read_step_of n t prev s p ≡ Ok (Some (c, next))
     → StepIs n t prev s p c next
 
 -- A header.
 abbrev pub WrittenDumpHeaderReads : Type 0
 WrittenDumpHeaderReads =
-    (n : ℕ) (rest : List ℕ) → InRange n → read_dump_header_of (dump_header n ++ rest) ≡ head.Header n (length (dump_header n))
+    (n : ℕ) (rest : List ℕ) → InRange n → read_dump_header_of (dump_header n ++ rest) ≡ Ok (n, length (dump_header n))
 
 abbrev pub ReadDumpHeaderWrites : Type 0
 ReadDumpHeaderWrites =
-    (s : List ℕ) (n next : ℕ) → read_dump_header_of s ≡ head.Header n next
+    (s : List ℕ) (n next : ℕ) → read_dump_header_of s ≡ Ok (n, next)
     → InRange n × (next ≡ length (dump_header n)) × (dump_header n ≡ take next s)
 
 -- Whole dumps, of at most 1,000,000 cycles.
@@ -78,14 +75,14 @@ pub record BuffersKept : Type 0 where
 
 -- What a writer wrote into a lent buffer is read there; what was read is written, where there is room.
 pub record WrittenIsRead : Type 0 where
-  pub header : (n k : ℕ) (buffer : List ℕ) → write_dump_header_of n (length buffer) ≡ Bytes k
-      → read_dump_header_of (dump_header_written n buffer) ≡ head.Header n k
-  pub step : (n t : ℕ) (prev c : Cycle) (k : ℕ) (pre buffer : List ℕ) → write_step_of n t prev c (length buffer) ≡ Bytes k → Ends (drop k buffer)
-      → read_step_of n t prev (pre ++ step_written n t prev c buffer) (length pre) ≡ Line c (length pre + k)
+  pub header : (n k : ℕ) (buffer : List ℕ) → write_dump_header_of n (length buffer) ≡ Ok k
+      → read_dump_header_of (dump_header_written n buffer) ≡ Ok (n, k)
+  pub step : (n t : ℕ) (prev c : Cycle) (k : ℕ) (pre buffer : List ℕ) → write_step_of n t prev c (length buffer) ≡ Ok k → Ends (drop k buffer)
+      → read_step_of n t prev (pre ++ step_written n t prev c buffer) (length pre) ≡ Ok (Some (c, length pre + k))
 
 pub record ReadIsWritten : Type 0 where
-  pub header : (s : List ℕ) (n next : ℕ) (buffer : List ℕ) → read_dump_header_of s ≡ head.Header n next → next ≤ length buffer
-      → (write_dump_header_of n (length buffer) ≡ Bytes next) × (dump_header_written n buffer ≡ take next s ++ drop next buffer)
+  pub header : (s : List ℕ) (n next : ℕ) (buffer : List ℕ) → read_dump_header_of s ≡ Ok (n, next) → next ≤ length buffer
+      → (write_dump_header_of n (length buffer) ≡ Ok next) × (dump_header_written n buffer ≡ take next s ++ drop next buffer)
   pub step : (n t : ℕ) (prev : Cycle) (s : List ℕ) (p : ℕ) (c : Cycle) (k : ℕ) (buffer : List ℕ)
-      → read_step_of n t prev s p ≡ Line c (p + k) → k ≤ length buffer
-      → (write_step_of n t prev c (length buffer) ≡ Bytes k) × (step_written n t prev c buffer ≡ take k (drop p s) ++ drop k buffer)
+      → read_step_of n t prev s p ≡ Ok (Some (c, p + k)) → k ≤ length buffer
+      → (write_step_of n t prev c (length buffer) ≡ Ok k) × (step_written n t prev c buffer ≡ take k (drop p s) ++ drop k buffer)

@@ -9,15 +9,13 @@
 --   shaped all xs vs s == s has nothing but lines of the variables xs, in their order, none of which repeats the value v; all of them in cycle 0
 --   values_in xs vs s  == the values after those lines
 --   read_step_of n t prev s p == the answer of reading at p the step of cycle t, after the cycle prev
-use Rattle.std.specs.Prelude.{ℕ, zero, suc, ◌+◌, ◌-◌, ◌*◌, ◌^◌, Bool, true, false, not, ◌&&◌, ◌||◌, cond, List, [], ◌∷◌, eqb, ltb, leb, length, get_or, drop}
+use Rattle.std.specs.Prelude.{ℕ, zero, suc, ◌+◌, ◌-◌, ◌*◌, ◌^◌, Bool, true, false, not, ◌&&◌, ◌||◌, cond, List, [], ◌∷◌, eqb, ltb, leb, length, get_or, drop, Err, None, Ok, Some}
 use Rattle.rules.specs.declared.Refusal.TheVariants as refusal
-use Rattle.rules.specs.declared.Check.{Check}
-use Rattle.rules.specs.declared.Check.TheVariants.{Good, Bad}
+use Rattle.rules.specs.Results.{Check}
 use Rattle.rules.specs.declared.Cycle.{Cycle}
 use Rattle.rules.specs.Codes.{most_cycles}
 use Rattle.rules.specs.State.{masters_ok}
-use Rattle.formats.specs.declared.TraceRead.{TraceRead}
-use Rattle.formats.specs.declared.TraceRead.TheVariants.{Line, NoMore, Refused}
+use Rattle.formats.specs.Results.{TraceRead}
 use Rattle.formats.specs.Digits.{lf, decimal}
 use Rattle.formats.specs.Columns.{cycle_values}
 use Rattle.formats.specs.Headers.{is_decimal}
@@ -157,24 +155,24 @@ unfoldable pub step_cycle : ℕ → Cycle → List ℕ → Cycle
 step_cycle t prev s = cycle_of (values_in variables (cycle_values prev) (changes_in t s))
 
 abbrev pub step_checked : Check → Cycle → ℕ → TraceRead
-step_checked Good c next = Line c next
-step_checked (Bad r) c next = Refused r
+step_checked (Ok _) c next = Ok (Some (c, next))
+step_checked (Err r) c next = Err r
 
 -- the step's text is s, and next is the position after it
 unfoldable pub step_in : ℕ → ℕ → Cycle → List ℕ → ℕ → TraceRead
 step_in n t prev s next =
-    cond (wrong_time t s) (Refused refusal.Time)
-    (cond (full_time t s) (Refused refusal.Full)
-    (cond (unknown_in s) (Refused refusal.Variable)
+    cond (wrong_time t s) (Err refusal.Time)
+    (cond (full_time t s) (Err refusal.Full)
+    (cond (unknown_in s) (Err refusal.Variable)
     (cond (step_shaped t prev s)
     (step_checked (line_check n (step_cycle t prev s)) (step_cycle t prev s) next)
-    (Refused refusal.Shape))))
+    (Err refusal.Shape))))
 
 -- at the input's end there is no more, and beyond it nothing
 unfoldable pub read_step_of : ℕ → ℕ → Cycle → List ℕ → ℕ → TraceRead
 read_step_of n t prev s p =
     cond (masters_ok n)
-    (cond (ltb (length s) p) (Refused refusal.Shape)
-    (cond (eqb p (length s)) NoMore
+    (cond (ltb (length s) p) (Err refusal.Shape)
+    (cond (eqb p (length s)) (Ok None)
     (step_in n t prev (step_text (drop p s)) (p + length (step_text (drop p s))))))
-    (Refused refusal.Masters)
+    (Err refusal.Masters)

@@ -5,14 +5,13 @@
 --   changes all xs vs us == the lines of the variables xs whose value was v and is u: of all, or of those that changed
 --   dump_step prev t c == the bytes of the step of cycle t, which is c, after the cycle prev
 --   write_step_of, step_written == the answer of writing one into a buffer of some length, and the buffer afterwards
-use Rattle.std.specs.Prelude.{ℕ, Bool, not, ◌||◌, cond, List, [], ◌∷◌, ◌++◌, eqb, leb, length}
+use Rattle.std.specs.Prelude.{ℕ, Bool, not, ◌||◌, cond, List, [], ◌∷◌, ◌++◌, eqb, leb, length, Err}
 use Rattle.rules.specs.declared.Refusal.TheVariants as refusal
-use Rattle.rules.specs.declared.Check.{Check}
-use Rattle.rules.specs.declared.Check.TheVariants.{Bad}
+use Rattle.rules.specs.Results.{Check}
 use Rattle.rules.specs.declared.Cycle.{Cycle}
 use Rattle.rules.specs.Codes.{most_cycles}
 use Rattle.rules.specs.Valid.{cycle_check}
-use Rattle.formats.specs.declared.Written.{Written}
+use Rattle.formats.specs.Results.{Written}
 use Rattle.formats.specs.Digits.{lf, decimal}
 use Rattle.formats.specs.Columns.{cycle_values}
 use Rattle.formats.specs.Lines.{fitted, for_masters, left}
@@ -37,7 +36,7 @@ dump_step prev t c = time_line t ++ changes (eqb t 0) variables (cycle_values pr
 
 -- 8 stands before the tests of the cycle: "time 1,000,000; also on writing, after 1"
 abbrev pub in_time : ℕ → Check → Check
-in_time t k = cond (leb most_cycles t) (Bad refusal.Full) k
+in_time t k = cond (leb most_cycles t) (Err refusal.Full) k
 
 unfoldable pub write_step_of : ℕ → ℕ → Cycle → Cycle → ℕ → Written
 write_step_of n t prev c room = fitted (for_masters n (in_time t (cycle_check n c))) (length (dump_step prev t c)) room

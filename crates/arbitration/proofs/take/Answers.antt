@@ -2,5 +2,5 @@
 use Rattle.arbitration.proofs.Close.{bad}
 use Rattle.arbitration.proofs.take.Goals as goal
 
-pub returns-in-Bad : goal.returns-in-Bad
-returns-in-Bad c = search bad
+pub returns-in-Err : goal.returns-in-Err
+returns-in-Err c = search bad

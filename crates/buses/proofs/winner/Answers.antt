@@ -2,5 +2,5 @@
 use Rattle.buses.proofs.Decision.{some_winner}
 use Rattle.buses.proofs.winner.Goals as goal
 
-pub returns-in-Nothing : goal.returns-in-Nothing
-returns-in-Nothing c = absurd (search some_winner)
+pub returns-in-None : goal.returns-in-None
+returns-in-None c = absurd (search some_winner)

@@ -2,8 +2,8 @@
 use Rattle.drawing.proofs.Answers.{header_wrote, header_none}
 use Rattle.drawing.proofs.put_header.Goals as goal
 
-pub returns-in-Bytes : goal.returns-in-Bytes
-returns-in-Bytes c = search header_wrote
+pub returns-in-Ok : goal.returns-in-Ok
+returns-in-Ok c = search header_wrote
 
-pub returns-in-Refused : goal.returns-in-Refused
-returns-in-Refused c = search header_none
+pub returns-in-Err : goal.returns-in-Err
+returns-in-Err c = search header_none

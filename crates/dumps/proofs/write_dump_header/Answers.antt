@@ -5,11 +5,11 @@ use Rattle.waves.specs.Header.{opening, declared, all_declared, closing, dump_he
 use Rattle.dumps.proofs.Writers.{header_refused, header_given}
 use Rattle.dumps.proofs.write_dump_header.Goals as goal
 
-pub returns-in-Bad : goal.returns-in-Bad
-returns-in-Bad c = let a = c.args in
-    header_refused a.n a.buf.now _ c.for_masters.ensures _ c.in-Bad.is
+pub returns-in-Err : goal.returns-in-Err
+returns-in-Err c = let a = c.args in
+    header_refused a.n a.buf.now _ c.for_masters.ensures _ c.in-Err.is
 
-pub returns-in-Good : goal.returns-in-Good
+pub returns-in-Ok : goal.returns-in-Ok
 unfolding bytes decimal_before opening declared all_declared closing dump_header
-returns-in-Good c = let a = c.args in
-    header_given a.n a.buf.now _ c.for_masters.ensures _ _ c.in-Good.is c.write_around.ensures
+returns-in-Ok c = let a = c.args in
+    header_given a.n a.buf.now _ c.for_masters.ensures _ _ c.in-Ok.is c.write_around.ensures

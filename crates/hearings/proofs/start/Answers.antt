@@ -9,8 +9,8 @@ returns-then-judge-lt42 c = search start_short
 pub put-requires : goal.put-requires
 put-requires c = (search start_fits, search rules)
 
-pub returns-in-Taken : goal.returns-in-Taken
-returns-in-Taken c = search start_taken
+pub returns-in-Ok : goal.returns-in-Ok
+returns-in-Ok c = search start_taken
 
-pub returns-in-Refused : goal.returns-in-Refused
-returns-in-Refused c = search start_refused
+pub returns-in-Err : goal.returns-in-Err
+returns-in-Err c = search start_refused

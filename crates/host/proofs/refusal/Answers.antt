@@ -9,8 +9,8 @@ returns-then-not-held c = search refusal_10
 pub returns-then-s-ge1000000 : goal.returns-then-s-ge1000000
 returns-then-s-ge1000000 c = search refusal_8
 
-pub returns-in-Good : goal.returns-in-Good
-returns-in-Good c = refusal_none _ _ c.see-held.ensures _ (not-false _ c.if-not-held.false) c.if-s-ge1000000.false _ c.check_inputs.ensures c.in-Good.is
+pub returns-in-Ok : goal.returns-in-Ok
+returns-in-Ok c = refusal_none _ _ c.see-held.ensures _ (not-false _ c.if-not-held.false) c.if-s-ge1000000.false _ c.check_inputs.ensures c.in-Ok.is
 
-pub returns-in-Bad : goal.returns-in-Bad
-returns-in-Bad c = refusal_of _ _ c.see-held.ensures _ (not-false _ c.if-not-held.false) c.if-s-ge1000000.false _ c.check_inputs.ensures _ _ c.in-Bad.is c.number.ensures
+pub returns-in-Err : goal.returns-in-Err
+returns-in-Err c = refusal_of _ _ c.see-held.ensures _ (not-false _ c.if-not-held.false) c.if-s-ge1000000.false _ c.check_inputs.ensures _ _ c.in-Err.is c.number.ensures

@@ -5,21 +5,21 @@ use Rattle.lines.proofs.write_trace.Goals as goal
 
 pub put_inputs-requires : goal.put_inputs-requires
 put_inputs-requires c = let a = c.args in
-    (search rules, (trace_small a.n a.buf.now _ _ c.for_masters.ensures a.c c.check_cycle-k.ensures c.in-Good.is).0)
+    (search rules, (trace_small a.n a.buf.now _ _ c.for_masters.ensures a.c c.check_cycle-k.ensures c.in-Ok.is).0)
 
 pub put_outputs-requires : goal.put_outputs-requires
 put_outputs-requires c = let a = c.args in
-    (search rules, (trace_small a.n a.buf.now _ _ c.for_masters.ensures a.c c.check_cycle-k.ensures c.in-Good.is).1)
+    (search rules, (trace_small a.n a.buf.now _ _ c.for_masters.ensures a.c c.check_cycle-k.ensures c.in-Ok.is).1)
 
-pub returns-in-Bad : goal.returns-in-Bad
-returns-in-Bad c = let a = c.args in
-    trace_refused a.n a.buf.now _ _ c.for_masters.ensures a.c c.check_cycle-k.ensures _ c.in-Bad.is
+pub returns-in-Err : goal.returns-in-Err
+returns-in-Err c = let a = c.args in
+    trace_refused a.n a.buf.now _ _ c.for_masters.ensures a.c c.check_cycle-k.ensures _ c.in-Err.is
 
 pub returns-then-buf-lt31 : goal.returns-then-buf-lt31
 returns-then-buf-lt31 c = let a = c.args in
-    trace_short a.n a.buf.now _ _ c.for_masters.ensures a.c c.check_cycle-k.ensures c.in-Good.is c.if-buf-lt31.true
+    trace_short a.n a.buf.now _ _ c.for_masters.ensures a.c c.check_cycle-k.ensures c.in-Ok.is c.if-buf-lt31.true
 
 pub returns-else-buf-lt31 : goal.returns-else-buf-lt31
 returns-else-buf-lt31 c = let a = c.args in
-    trace_written_lem a.n a.buf.now _ _ c.for_masters.ensures a.c c.check_cycle-k.ensures c.in-Good.is _ _ c.if-buf-lt31.false
+    trace_written_lem a.n a.buf.now _ _ c.for_masters.ensures a.c c.check_cycle-k.ensures c.in-Ok.is _ _ c.if-buf-lt31.false
     c.put_inputs.ensures c.put_outputs.ensures

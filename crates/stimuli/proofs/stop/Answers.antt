@@ -1,13 +1,15 @@
 -- `stop` meets its contract: refusal 8, nothing, or the line of a refusal.
+use Rattle.std.proofs.Common.{Ok}
+use mathlib.Core.Path.{◌∙◌, ap}
 use Rattle.streams.proofs.Arbitrated.{read_none, read_refused}
 use Rattle.stimuli.proofs.Taken.{stops_full}
 use Rattle.stimuli.proofs.stop.Goals as goal
 
-pub returns-in-Line : goal.returns-in-Line
-returns-in-Line c = search stops_full
+pub returns-in-Ok-Some : goal.returns-in-Ok-Some
+returns-in-Ok-Some c = search (stops_full, c.in-Ok-Some.is ∙ ap Ok c.in-Ok-Some.field-0-is)
 
-pub returns-in-NoMore : goal.returns-in-NoMore
-returns-in-NoMore c = search read_none
+pub returns-in-Ok-None : goal.returns-in-Ok-None
+returns-in-Ok-None c = search (read_none, c.in-Ok-None.is ∙ ap Ok c.in-Ok-None.field-0-is)
 
-pub returns-in-Refused : goal.returns-in-Refused
-returns-in-Refused c = search read_refused
+pub returns-in-Err : goal.returns-in-Err
+returns-in-Err c = search read_refused

@@ -9,8 +9,8 @@ returns-then-out-lt31 c = arbiter_too_short _ _ c.if-out-lt31.true
 pub begin-requires : goal.begin-requires
 begin-requires c = (search header_good, search rules)
 
-pub returns-in-Header : goal.returns-in-Header
-returns-in-Header c = arbiter_begun _ _ _ c.if-out-lt31.false c.read_header.ensures _ _ _ _ c.in-Header.is c.begin.ensures
+pub returns-in-Ok : goal.returns-in-Ok
+returns-in-Ok c = arbiter_begun _ _ _ c.if-out-lt31.false c.read_header.ensures _ _ _ _ c.in-Ok.is c.begin.ensures
 
-pub returns-in-Refused : goal.returns-in-Refused
-returns-in-Refused c = arbiter_refused _ _ _ c.if-out-lt31.false c.read_header.ensures _ _ _ c.in-Refused.is c.put_refused.ensures
+pub returns-in-Err : goal.returns-in-Err
+returns-in-Err c = arbiter_refused _ _ _ c.if-out-lt31.false c.read_header.ensures _ _ _ c.in-Err.is c.put_refused.ensures

@@ -5,8 +5,8 @@ use Rattle.streaming.proofs.judge_head.Goals as goal
 pub returns-then-out-lt31 : goal.returns-then-out-lt31
 returns-then-out-lt31 c = judge_too_short _ _ _ c.if-out-lt31.true c.tally.ensures
 
-pub returns-in-Header : goal.returns-in-Header
-returns-in-Header c = judge_begun _ _ _ _ c.if-out-lt31.false c.read_header.ensures _ _ c.in-Header.is c.tally-in-Header.ensures
+pub returns-in-Ok : goal.returns-in-Ok
+returns-in-Ok c = judge_begun _ _ _ _ c.if-out-lt31.false c.read_header.ensures _ _ c.in-Ok.is c.tally-in-Ok.ensures
 
-pub returns-in-Refused : goal.returns-in-Refused
-returns-in-Refused c = judge_refused _ _ _ _ c.if-out-lt31.false c.read_header.ensures _ _ _ c.in-Refused.is c.tally-in-Refused.ensures c.put_refused.ensures
+pub returns-in-Err : goal.returns-in-Err
+returns-in-Err c = judge_refused _ _ _ _ c.if-out-lt31.false c.read_header.ensures _ _ _ c.in-Err.is c.tally-in-Err.ensures c.put_refused.ensures
