@@ -21,10 +21,10 @@ use Rattle.rules.proofs.WellFormed.{facts_of}
 use Rattle.formats.specs.declared.Word.TheVariants.{Stim}
 use Rattle.formats.specs.Results.{HeaderRead}
 use Rattle.formats.specs.Headers.{read_header_of}
-use Rattle.streams.specs.declared.ArbiterStretch.{ArbiterStretch}
+use Rattle.streams.specs.declared.Progress.{Progress}
 use Rattle.streams.specs.Streams.{Stretch, on, done}
 use Rattle.streams.specs.Arbiter.{arbiter_turn}
-use Rattle.streams.specs.Blocks.{arbiter_room, as_arbiter, arbiter_stretch, arbiter_block_of}
+use Rattle.streams.specs.Blocks.{arbiter_room, progress_of, arbiter_stretch, arbiter_block_of}
 use Rattle.streams.specs.Stays.{kept}
 use Rattle.streams.proofs.Near.{arbiter_by_lines}
 use Rattle.streams.proofs.Counted.{arbiter_counts}
@@ -42,24 +42,24 @@ use Rattle.console.proofs.Ends.{came}
 use Rattle.console.proofs.Onwards as onwards
 use Rattle.arbiter.specs.Breaches.{no_breach}
 
-flow_is : (x : Stretch State) → goes_on_after (as_arbiter x).flow ≡ is_on no_breach x
+flow_is : (x : Stretch State) → goes_on_after (progress_of x).flow ≡ is_on no_breach x
 flow_is (on bytes s) = refl
 flow_is (done bytes s) = refl
 
-kept_is : (x : Stretch State) → (as_arbiter x).state ≡ kept x
+kept_is : (x : Stretch State) → (progress_of x).kept ≡ kept x
 kept_is (on bytes s) = refl
 kept_is (done bytes s) = refl
 
 module _ (s : State) (block : List ℕ) where
-  block_taken : (room : ℕ) → (well_formed s ≡ true) × (arbiter_room block ≤ room) → arbiter_block_of s block room ≡ as_arbiter (arbiter_stretch s block)
+  block_taken : (room : ℕ) → (well_formed s ≡ true) × (arbiter_room block ≤ room) → arbiter_block_of s block room ≡ progress_of (arbiter_stretch s block)
   unfolding arbiter_block_of
   block_taken room h = let l = le-ltb room (arbiter_room block) h.1 in rw (l, h.0)
 
-  pub sorted : (room : ℕ) (a : ArbiterStretch) (given goes : Bool) (e : Ending) → (well_formed s ≡ true) × (arbiter_room block ≤ room)
+  pub sorted : (room : ℕ) (a : Progress State) (given goes : Bool) (e : Ending) → (well_formed s ≡ true) × (arbiter_room block ≤ room)
       → a ≡ arbiter_block_of s block room → goes ≡ goes_on_after a.flow → e ≡ ending_of given a.flow 0
-      → Came no_breach (arbiter_stretch s block) (given && goes) e × (a.state ≡ kept (arbiter_stretch s block))
+      → Came no_breach (arbiter_stretch s block) (given && goes) e × (a.kept ≡ kept (arbiter_stretch s block))
   sorted room a given goes e h is g k =
-      let all : a ≡ as_arbiter (arbiter_stretch s block) = is ∙ block_taken room h in (
+      let all : a ≡ progress_of (arbiter_stretch s block) = is ∙ block_taken room h in (
         came no_breach (arbiter_stretch s block) a.flow 0 given goes (given && goes) e (rw all (flow_is (arbiter_stretch s block))) refl g refl k,
         rw all (kept_is (arbiter_stretch s block)),
       )

@@ -43,7 +43,7 @@ fn take<W: Write>(output: &mut Output<W>, s: State, block: &[u8], out: &mut [u8]
         on: given & goes,
         kept: 0,
         ending: console::ends_as(given, a.flow, 0),
-        state: a.state,
+        state: a.kept,
     }
 }
 

@@ -22,7 +22,7 @@ use Rattle.formats.specs.Lines.{read_trace_of}
 use Rattle.formats.specs.Report.{refused_line}
 use Rattle.streams.specs.declared.Flow.TheVariants.{GoesOn, Stopped}
 use Rattle.streams.specs.Streams.{on, done}
-use Rattle.streams.specs.Blocks.{bytes_of}
+use Rattle.streams.specs.Blocks.{progress_of, bytes_of}
 use Rattle.streams.specs.Turns.{over, bytes_in, state_after, Put, Lined}
 use Rattle.streams.proofs.Lines.{stepping}
 use Rattle.streams.proofs.Sizes.{refused_size, went, ended}
@@ -32,7 +32,7 @@ use Rattle.waves.proofs.Promises.{steps_are_short}
 use Rattle.conversions.specs.declared.Position.{Position}
 use Rattle.conversions.specs.Positions.{after}
 use Rattle.conversions.specs.Dumping.{drawn, dump_turn}
-use Rattle.conversions.specs.Blocks.{as_converted, dump_stretch}
+use Rattle.conversions.specs.Blocks.{dump_stretch}
 use Rattle.conversions.proofs.Positions.{Formed, Facts, facts_of, test_of}
 use Rattle.conversions.proofs.DumpNear.{dump_by_lines}
 
@@ -95,9 +95,9 @@ dump_program_lem =
 
 module _ {p₀ : Position} {block out₀ : List ℕ} {p : Position} {out : List ℕ} {w : ℕ} where
   pub block_stopped : Ended dump_turn p₀ block out₀ done p out w
-      → (record { written = w; flow = Stopped; position = p } ≡ as_converted (dump_stretch p₀ block)) × (out ≡ over (bytes_of (dump_stretch p₀ block)) out₀)
+      → (record { written = w; flow = Stopped; kept = p } ≡ progress_of (dump_stretch p₀ block)) × (out ≡ over (bytes_of (dump_stretch p₀ block)) out₀)
   block_stopped e = (rw (e.is, e.size), rw e.is e.puts)
 
   pub block_used : Ended dump_turn p₀ block out₀ on p out w
-      → (record { written = w; flow = GoesOn; position = p } ≡ as_converted (dump_stretch p₀ block)) × (out ≡ over (bytes_of (dump_stretch p₀ block)) out₀)
+      → (record { written = w; flow = GoesOn; kept = p } ≡ progress_of (dump_stretch p₀ block)) × (out ≡ over (bytes_of (dump_stretch p₀ block)) out₀)
   block_used e = (rw (e.is, e.size), rw e.is e.puts)

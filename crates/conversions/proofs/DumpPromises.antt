@@ -13,7 +13,7 @@ use Rattle.formats.specs.Results.{HeaderRead}
 use Rattle.formats.specs.Lines.{place, read_trace_of}
 use Rattle.formats.specs.Headers.{read_header_of}
 use Rattle.streams.specs.Streams.{written}
-use Rattle.streams.specs.Blocks.{joined}
+use Rattle.streams.specs.Blocks.{progress_of, joined}
 use Rattle.streams.proofs.Lines.{stepping, cutting, all_cut}
 use Rattle.streams.proofs.Cut.{in_blocks_lem}
 use Rattle.streams.proofs.Heads.{head_near, head_size_lem}
@@ -21,14 +21,15 @@ use Rattle.streams.proofs.Promises.{shorter, kept}
 use Rattle.streams.proofs.Stays.{stays_formed}
 use Rattle.streams.proofs.Enough.{whole_used, more_stop, on_only}
 use Rattle.waves.specs.Header.{dump_header}
-use Rattle.conversions.specs.declared.Converted.{Converted}
+use Rattle.streams.specs.declared.Progress.{Progress}
+use Rattle.conversions.specs.declared.Position.{Position}
 use Rattle.conversions.specs.Positions.{start_at, position_formed}
 use Rattle.conversions.specs.Dumping.{dump_turn, first_line, dump_program}
-use Rattle.conversions.specs.Blocks.{as_converted, dump_room, dump_stretch, dump_block_of, dump_block_left}
+use Rattle.conversions.specs.Blocks.{dump_room, dump_stretch, dump_block_of, dump_block_left}
 use Rattle.conversions.specs.Heads.{dump_headed, dump_head_of, dump_head_left}
 use Rattle.conversions.specs.DumpPromises.{dump_run, DumpInBlocks, DumpAsRun, DumpEnds, DumpStaysFormed, DumpBlocksAreCounted, DumpMoreLinesStop, DumpRefusedBlocksKept, DumpHeadsByNumber}
 use Rattle.conversions.proofs.Positions.{facts_of, test_of}
-use Rattle.conversions.proofs.Answers.{converted_taken, converted_on, converted_kept}
+use Rattle.streams.proofs.Taken.{progress_taken, progress_on, progress_kept}
 use Rattle.conversions.proofs.DumpNear.{dump_by_lines}
 use Rattle.conversions.proofs.DumpLines.{dump_program_lem}
 use Rattle.conversions.proofs.DumpCounted.{dump_counts, stays_level}
@@ -63,17 +64,17 @@ unfolding dump_block_of
 dump_blocks_are_counted =
     record {
       cycles = λ p block room e.
-          on_only (λ (a : Converted). a.flow) _ (as_converted (dump_stretch p block)) _ (ltb room (dump_room block)) (position_formed p) refl refl e
+          on_only (λ (a : Progress Position). a.flow) _ (progress_of (dump_stretch p block)) _ (ltb room (dump_room block)) (position_formed p) refl refl e
           (λ formed goes is.
-          let q = converted_on (dump_stretch p block) goes in
-          let u = whole_used dump_turn (stepping dump_by_lines) (λ p. p.count) dump_counts p (as_converted (dump_stretch p block)).position block q.0 q.1 in
+          let q = progress_on (dump_stretch p block) goes in
+          let u = whole_used dump_turn (stepping dump_by_lines) (λ p. p.count) dump_counts p (progress_of (dump_stretch p block)).kept block q.0 q.1 in
           rw is (omega (arith, u.at_least, u.at_most, u.counted), u.room (facts_of p formed).room));
       lines = λ p block room e.
-          on_only (λ (a : Converted). a.flow) _ (as_converted (dump_stretch p block)) _ (ltb room (dump_room block)) (position_formed p) refl refl e
+          on_only (λ (a : Progress Position). a.flow) _ (progress_of (dump_stretch p block)) _ (ltb room (dump_room block)) (position_formed p) refl refl e
           (λ formed goes is.
-          let q = converted_on (dump_stretch p block) goes in
-          let u = whole_used dump_turn (stepping dump_by_lines) (λ p. p.count) dump_counts p (as_converted (dump_stretch p block)).position block q.0 q.1 in
-          let l = rw (← converted_kept (dump_stretch p block)) at (stays_level (length block) p block) in
+          let q = progress_on (dump_stretch p block) goes in
+          let u = whole_used dump_turn (stepping dump_by_lines) (λ p. p.count) dump_counts p (progress_of (dump_stretch p block)).kept block q.0 q.1 in
+          let l = rw (← progress_kept (dump_stretch p block)) at (stays_level (length block) p block) in
           rw is (omega (arith, u.at_least, u.at_most, u.counted, l)));
     }
 
@@ -83,14 +84,14 @@ dump_more_lines_stop p block h = more_stop dump_turn (stepping dump_by_lines) (�
 pub dump_refused_blocks_kept : DumpRefusedBlocksKept
 unfolding dump_block_of dump_block_left
 dump_refused_blocks_kept p block buffer h =
-    kept (λ (a : Converted). a.flow) (λ a. a.position) _ (as_converted (dump_stretch p block)) _ p _ buffer
+    kept (λ (a : Progress Position). a.flow) (λ a. a.kept) _ (progress_of (dump_stretch p block)) _ p _ buffer
     (ltb (length buffer) (dump_room block)) (position_formed p)
-    refl (converted_taken (dump_stretch p block)) refl h
+    refl (progress_taken (dump_stretch p block)) refl h
 
 pub dump_heads_by_number : DumpHeadsByNumber
 unfolding dump_head_of dump_head_left
 dump_heads_by_number =
     record {
       short = λ s buffer h. let e = lt-ltb (length buffer) 398 h in (rw e, rw e);
-      taken = λ s buffer h. rw (le-ltb (length buffer) 398 h) (converted_taken (dump_headed (read_header_of Trace s)));
+      taken = λ s buffer h. rw (le-ltb (length buffer) 398 h) (progress_taken (dump_headed (read_header_of Trace s)));
     }

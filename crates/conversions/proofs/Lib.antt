@@ -1,6 +1,5 @@
 -- The laws of the converting programs.
 pub mod Positions
-pub mod Answers
 pub mod DumpNear
 pub mod DumpLines
 pub mod DumpCounted

@@ -19,7 +19,7 @@ use Rattle.formats.specs.Lines.{trace_line}
 use Rattle.formats.specs.Report.{refused_line}
 use Rattle.streams.specs.declared.Flow.TheVariants.{GoesOn, Stopped}
 use Rattle.streams.specs.Streams.{goes, on, done}
-use Rattle.streams.specs.Blocks.{Stepping, Cutting, bytes_of}
+use Rattle.streams.specs.Blocks.{progress_of, Stepping, Cutting, bytes_of}
 use Rattle.streams.specs.Turns.{over, bytes_in, state_after, taken_by, Put, Lined}
 use Rattle.streams.proofs.Sizes.{refused_size, went, ended}
 use Rattle.streams.proofs.Counted.{Counting}
@@ -29,7 +29,7 @@ use Rattle.waves.specs.Files.{lines_in}
 use Rattle.conversions.specs.declared.Position.{Position}
 use Rattle.conversions.specs.Positions.{after}
 use Rattle.conversions.specs.Undumping.{recalled, undump_turn}
-use Rattle.conversions.specs.Blocks.{BetweenSteps, as_converted, undump_stretch}
+use Rattle.conversions.specs.Blocks.{BetweenSteps, undump_stretch}
 use Rattle.conversions.proofs.UndumpFacts.{found}
 use Rattle.conversions.proofs.Positions.{Formed, Facts, facts_of, test_of}
 use Rattle.conversions.proofs.UndumpSteps.{goes_by, undump_last, undump_next, undump_near, undump_rest}
@@ -89,9 +89,9 @@ module _ (p : Position) (rest : List ℕ) where
 
 module _ {p₀ : Position} {block out₀ : List ℕ} {p : Position} {out : List ℕ} {w : ℕ} where
   pub block_stopped : Ended undump_turn p₀ block out₀ done p out w
-      → (record { written = w; flow = Stopped; position = p } ≡ as_converted (undump_stretch p₀ block)) × (out ≡ over (bytes_of (undump_stretch p₀ block)) out₀)
+      → (record { written = w; flow = Stopped; kept = p } ≡ progress_of (undump_stretch p₀ block)) × (out ≡ over (bytes_of (undump_stretch p₀ block)) out₀)
   block_stopped e = (rw (e.is, e.size), rw e.is e.puts)
 
   pub block_used : Ended undump_turn p₀ block out₀ on p out w
-      → (record { written = w; flow = GoesOn; position = p } ≡ as_converted (undump_stretch p₀ block)) × (out ≡ over (bytes_of (undump_stretch p₀ block)) out₀)
+      → (record { written = w; flow = GoesOn; kept = p } ≡ progress_of (undump_stretch p₀ block)) × (out ≡ over (bytes_of (undump_stretch p₀ block)) out₀)
   block_used e = (rw (e.is, e.size), rw e.is e.puts)

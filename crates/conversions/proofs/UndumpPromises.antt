@@ -12,21 +12,22 @@ use Rattle.formats.specs.declared.Word.TheVariants.{Trace}
 use Rattle.formats.specs.Results.{HeaderRead}
 use Rattle.formats.specs.Headers.{header}
 use Rattle.streams.specs.Streams.{written}
-use Rattle.streams.specs.Blocks.{joined, in_blocks, AllCut}
+use Rattle.streams.specs.Blocks.{progress_of, joined, in_blocks, AllCut}
 use Rattle.streams.proofs.Cut.{in_blocks_lem}
 use Rattle.streams.proofs.Stays.{stays_formed}
 use Rattle.streams.proofs.Enough.{whole_used, more_stop, on_only}
 use Rattle.streams.proofs.Promises.{shorter, kept}
 use Rattle.waves.specs.Header.{read_dump_header_of}
 use Rattle.waves.specs.Reading.{read_step_of}
-use Rattle.conversions.specs.declared.Converted.{Converted}
+use Rattle.streams.specs.declared.Progress.{Progress}
+use Rattle.conversions.specs.declared.Position.{Position}
 use Rattle.conversions.specs.Positions.{start_at, position_formed}
 use Rattle.conversions.specs.Undumping.{first_step, undump_turn, undump_program}
-use Rattle.conversions.specs.Blocks.{BetweenSteps, as_converted, undump_room, undump_stretch, undump_block_of, undump_block_left}
+use Rattle.conversions.specs.Blocks.{BetweenSteps, undump_room, undump_stretch, undump_block_of, undump_block_left}
 use Rattle.conversions.specs.Heads.{undump_headed, undump_head_of, undump_head_left}
 use Rattle.conversions.specs.UndumpPromises.{undump_run, UndumpAsRun, UndumpStaysFormed, UndumpRefusedKept, UndumpHeadsByNumber, UndumpBlocksAreCounted, MoreStepsStop, UndumpEnds}
 use Rattle.conversions.proofs.Positions.{facts_of, test_of}
-use Rattle.conversions.proofs.Answers.{converted_taken, converted_on}
+use Rattle.streams.proofs.Taken.{progress_taken, progress_on}
 use Rattle.conversions.proofs.UndumpHeads.{undump_head_near, undump_head_size_lem}
 use Rattle.conversions.proofs.UndumpLines.{undump_stepping, undump_cutting, undump_counts, undump_program_lem}
 
@@ -56,10 +57,10 @@ undump_stays_formed = (
 pub undump_blocks_are_counted : UndumpBlocksAreCounted
 unfolding undump_block_of
 undump_blocks_are_counted p block room e =
-    on_only (λ (a : Converted). a.flow) _ (as_converted (undump_stretch p block)) _ (ltb room (undump_room block)) (position_formed p) refl refl e
+    on_only (λ (a : Progress Position). a.flow) _ (progress_of (undump_stretch p block)) _ (ltb room (undump_room block)) (position_formed p) refl refl e
     (λ formed goes is.
-    let q = converted_on (undump_stretch p block) goes in
-    let u = whole_used undump_turn undump_stepping (λ p. p.count) undump_counts p (as_converted (undump_stretch p block)).position block q.0 q.1 in
+    let q = progress_on (undump_stretch p block) goes in
+    let u = whole_used undump_turn undump_stepping (λ p. p.count) undump_counts p (progress_of (undump_stretch p block)).kept block q.0 q.1 in
     rw is
     (record {
       steps = u.lines;
@@ -75,16 +76,16 @@ more_steps_stop p block h = more_stop undump_turn undump_stepping (λ p. p.count
 pub undump_refused_kept : UndumpRefusedKept
 unfolding undump_block_of undump_block_left
 undump_refused_kept p block buffer h =
-    kept (λ (a : Converted). a.flow) (λ a. a.position) _ (as_converted (undump_stretch p block)) _ p _ buffer
+    kept (λ (a : Progress Position). a.flow) (λ a. a.kept) _ (progress_of (undump_stretch p block)) _ p _ buffer
     (ltb (length buffer) (undump_room block)) (position_formed p)
-    refl (converted_taken (undump_stretch p block)) refl h
+    refl (progress_taken (undump_stretch p block)) refl h
 
 pub undump_heads_by_number : UndumpHeadsByNumber
 unfolding undump_head_of undump_head_left
 undump_heads_by_number =
     record {
       short = λ s buffer h. let e = lt-ltb (length buffer) 31 h in (rw e, rw e);
-      taken = λ s buffer h. rw (le-ltb (length buffer) 31 h) (converted_taken (undump_headed (read_dump_header_of s)));
+      taken = λ s buffer h. rw (le-ltb (length buffer) 31 h) (progress_taken (undump_headed (read_dump_header_of s)));
     }
 
 pub undump_ends : UndumpEnds

@@ -53,10 +53,10 @@ DumpStaysFormed =
 -- A block that is used up has counted its lines, no more than 1,000,000 in all, and each of them is a line of the input.
 pub record DumpBlocksAreCounted : Type 0 where
   pub cycles : (p : Position) (block : List ℕ) (room : ℕ) → (dump_block_of p block room).flow ≡ GoesOn
-      → ((dump_block_of p block room).position.count * width trace_fields ≡ p.count * width trace_fields + length block)
-      × ((dump_block_of p block room).position.count ≤ most_cycles)
+      → ((dump_block_of p block room).kept.count * width trace_fields ≡ p.count * width trace_fields + length block)
+      × ((dump_block_of p block room).kept.count ≤ most_cycles)
   pub lines : (p : Position) (block : List ℕ) (room : ℕ) → (dump_block_of p block room).flow ≡ GoesOn
-      → (dump_block_of p block room).position.line * width trace_fields ≡ p.line * width trace_fields + length block
+      → (dump_block_of p block room).kept.line * width trace_fields ≡ p.line * width trace_fields + length block
 
 -- "At most 1,000,000 cycles a run": a stretch over more lines has stopped, from wherever it began.
 abbrev pub DumpMoreLinesStop : Type 0
@@ -67,7 +67,7 @@ DumpMoreLinesStop =
 abbrev pub DumpRefusedBlocksKept : Type 0
 DumpRefusedBlocksKept =
     (p : Position) (block buffer : List ℕ) → (flow_answer (dump_block_of p block (length buffer)).flow ≡ 0 → ⊥)
-    → ((dump_block_of p block (length buffer)).position ≡ p) × (dump_block_left p block buffer ≡ buffer)
+    → ((dump_block_of p block (length buffer)).kept ≡ p) × (dump_block_left p block buffer ≡ buffer)
 
 -- a call that takes a header answers 9 where the buffer is too short for what it may write, and else takes it
 pub record DumpHeadsByNumber : Type 0 where

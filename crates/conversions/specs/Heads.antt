@@ -10,14 +10,13 @@ use Rattle.formats.specs.Digits.{lf}
 use Rattle.formats.specs.Headers.{header, read_header_of}
 use Rattle.formats.specs.Report.{refused_line}
 use Rattle.streams.specs.Streams.{Stretch, on, done}
-use Rattle.streams.specs.Blocks.{left_by}
+use Rattle.streams.specs.Blocks.{progress_in, left_by}
 use Rattle.waves.specs.Header.{dump_header, read_dump_header_of}
 use Rattle.conversions.specs.declared.Position.{Position}
-use Rattle.conversions.specs.declared.Converted.{Converted}
+use Rattle.streams.specs.declared.Progress.{Progress}
 use Rattle.conversions.specs.Positions.{start_at}
 use Rattle.conversions.specs.Dumping.{first_line}
 use Rattle.conversions.specs.Undumping.{first_step}
-use Rattle.conversions.specs.Blocks.{converted_in}
 
 -- a header with n in one digit, and one byte more where that one does not end with LF
 abbrev pub short_header : ℕ
@@ -42,14 +41,14 @@ abbrev pub undump_headed : HeaderRead → Stretch Position
 undump_headed (Ok (n, next)) = on (header Trace n) (start_at n first_step)
 undump_headed (Err r) = done (refused_line 1 r) (start_at 0 first_step)
 
-unfoldable pub dump_head_of : List ℕ → ℕ → Converted
-dump_head_of s room = converted_in room dump_head_room true (start_at 0 first_line) (dump_headed (read_header_of Trace s))
+unfoldable pub dump_head_of : List ℕ → ℕ → Progress Position
+dump_head_of s room = progress_in room dump_head_room true (start_at 0 first_line) (dump_headed (read_header_of Trace s))
 
 unfoldable pub dump_head_left : List ℕ → List ℕ → List ℕ
 dump_head_left s buffer = left_by dump_head_room true (dump_headed (read_header_of Trace s)) buffer
 
-unfoldable pub undump_head_of : List ℕ → ℕ → Converted
-undump_head_of s room = converted_in room undump_head_room true (start_at 0 first_step) (undump_headed (read_dump_header_of s))
+unfoldable pub undump_head_of : List ℕ → ℕ → Progress Position
+undump_head_of s room = progress_in room undump_head_room true (start_at 0 first_step) (undump_headed (read_dump_header_of s))
 
 unfoldable pub undump_head_left : List ℕ → List ℕ → List ℕ
 undump_head_left s buffer = left_by undump_head_room true (undump_headed (read_dump_header_of s)) buffer

@@ -42,7 +42,7 @@ UndumpStaysFormed =
 abbrev pub UndumpRefusedKept : Type 0
 UndumpRefusedKept =
     (p : Position) (block buffer : List ℕ) → (flow_answer (undump_block_of p block (length buffer)).flow ≡ 0 → ⊥)
-    → ((undump_block_of p block (length buffer)).position ≡ p) × (undump_block_left p block buffer ≡ buffer)
+    → ((undump_block_of p block (length buffer)).kept ≡ p) × (undump_block_left p block buffer ≡ buffer)
 
 -- the call that takes a header answers 9 where the buffer is too short for what it may write, and else takes it
 pub record UndumpHeadsByNumber : Type 0 where
@@ -61,7 +61,7 @@ pub record UndumpCounted (p : Position) (block : List ℕ) (q : Position) : Type
 abbrev pub UndumpBlocksAreCounted : Type 0
 UndumpBlocksAreCounted =
     (p : Position) (block : List ℕ) (room : ℕ) → (undump_block_of p block room).flow ≡ GoesOn
-    → UndumpCounted p block (undump_block_of p block room).position
+    → UndumpCounted p block (undump_block_of p block room).kept
 
 -- "time 1,000,000": a stretch over more bytes than 1,000,000 steps can have has stopped, from wherever it began
 abbrev pub MoreStepsStop : Type 0

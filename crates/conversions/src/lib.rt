@@ -2,7 +2,6 @@
 #![tactic(auto)]
 
 use rules::Cycle;
-use streams::Flow;
 
 // Where a conversion stands: the masters, the cycles so far and the last of them, and the line of the input that comes next.
 #[derive(Clone, Copy)]
@@ -11,12 +10,4 @@ pub struct Position {
     pub count: u32,
     pub before: Cycle,
     pub line: u32,
-}
-
-// A conversion after a header or a block: how many bytes it wrote, how that ended, and where it stands.
-#[derive(Clone, Copy)]
-pub struct Converted {
-    pub written: usize,
-    pub flow: Flow,
-    pub position: Position,
 }

@@ -21,17 +21,17 @@ use Rattle.formats.specs.Report.{refused_line}
 use Rattle.formats.proofs.Limits.{range_ok}
 use Rattle.formats.proofs.Headers.{header_writes}
 use Rattle.streams.specs.declared.Flow.TheVariants.{GoesOn, Stopped, Short, Unformed}
-use Rattle.streams.specs.Blocks.{bytes_of}
+use Rattle.streams.specs.Blocks.{progress_of, bytes_of}
 use Rattle.streams.specs.Turns.{over, Put, size_of}
 use Rattle.waves.specs.Header.{dump_header, write_dump_header_of, dump_header_written}
 use Rattle.conversions.specs.declared.Position.{Position}
-use Rattle.conversions.specs.declared.Converted.{Converted}
+use Rattle.streams.specs.declared.Progress.{Progress}
 use Rattle.conversions.specs.Positions.{start_at, position_formed}
 use Rattle.conversions.specs.Dumping.{first_line}
-use Rattle.conversions.specs.Blocks.{as_converted, dump_room, dump_stretch, dump_block_of, dump_block_left}
+use Rattle.conversions.specs.Blocks.{dump_room, dump_stretch, dump_block_of, dump_block_left}
 use Rattle.conversions.specs.Heads.{dump_head_room, dump_headed, dump_head_of, dump_head_left}
 use Rattle.conversions.proofs.DumpHeads.{dump_header_fits}
-use Rattle.conversions.proofs.Answers.{few_lines, many_lines, short, unformed, taken}
+use Rattle.streams.proofs.Taken.{few_lines, many_lines, short, unformed, taken}
 
 pub header_good : (s : List ℕ) (a : HeaderRead) (n next : ℕ) → a ≡ read_header_of Trace s → a ≡ Ok (n, next) → masters_ok n ≡ true
 header_good s a n next e f = range_ok n (header_writes Trace s n next (sym e ∙ f)).range
@@ -46,13 +46,13 @@ module _ (n : ℕ) (buffer out : List ℕ) (w : Written) (h : (masters_ok n ≡ 
 
 module _ (s buffer : List ℕ) (p : Position) where
   pub head_short : length buffer < dump_head_room → p ≡ start_at 0 first_line
-      → (record { written = 0; flow = Short; position = p } ≡ dump_head_of s (length buffer)) × (buffer ≡ dump_head_left s buffer)
+      → (record { written = 0; flow = Short; kept = p } ≡ dump_head_of s (length buffer)) × (buffer ≡ dump_head_left s buffer)
   unfolding dump_head_of dump_head_left
   head_short h f = rw f (short dump_head_room true (start_at 0 first_line) (dump_headed (read_header_of Trace s)) buffer h)
 
   module _ (a : HeaderRead) (k : ℕ) (out : List ℕ) (room : dump_head_room ≤ length buffer) (e : a ≡ read_header_of Trace s) where
     pub head_begun : (n next : ℕ) → a ≡ Ok (n, next) → Put (dump_header n) buffer k out → p ≡ start_at n first_line
-        → (record { written = k; flow = GoesOn; position = p } ≡ dump_head_of s (length buffer)) × (out ≡ dump_head_left s buffer)
+        → (record { written = k; flow = GoesOn; kept = p } ≡ dump_head_of s (length buffer)) × (out ≡ dump_head_left s buffer)
     unfolding dump_head_of dump_head_left
     head_begun n next f put g =
         let q : read_header_of Trace s ≡ Ok (n, next) = sym e ∙ f in
@@ -60,7 +60,7 @@ module _ (s buffer : List ℕ) (p : Position) where
         (rw (q, g, put.size), rw q put.puts)
 
     pub head_refused : (r : Refusal) → a ≡ Err r → Put (refused_line 1 r) buffer k out → p ≡ start_at 0 first_line
-        → (record { written = k; flow = Stopped; position = p } ≡ dump_head_of s (length buffer)) × (out ≡ dump_head_left s buffer)
+        → (record { written = k; flow = Stopped; kept = p } ≡ dump_head_of s (length buffer)) × (out ≡ dump_head_left s buffer)
     unfolding dump_head_of dump_head_left
     head_refused r f put g =
         let q : read_header_of Trace s ≡ Err r = sym e ∙ f in
@@ -69,7 +69,7 @@ module _ (s buffer : List ℕ) (p : Position) where
 
 module _ (p : Position) (block out : List ℕ) where
   pub block_short : length out / 104 < length block / 31 + 1
-      → (record { written = 0; flow = Short; position = p } ≡ dump_block_of p block (length out)) × (out ≡ dump_block_left p block out)
+      → (record { written = 0; flow = Short; kept = p } ≡ dump_block_of p block (length out)) × (out ≡ dump_block_left p block out)
   unfolding dump_block_of dump_block_left
   block_short h =
       short (dump_room block) (position_formed p) p (dump_stretch p block) out (few_lines 31 104 (omega arith) block out h)
@@ -79,15 +79,15 @@ module _ (p : Position) (block out : List ℕ) where
     enough = many_lines 31 104 (omega arith) block out big
 
     pub block_unformed : not formed ≡ true
-        → (record { written = 0; flow = Unformed; position = p } ≡ dump_block_of p block (length out)) × (out ≡ dump_block_left p block out)
+        → (record { written = 0; flow = Unformed; kept = p } ≡ dump_block_of p block (length out)) × (out ≡ dump_block_left p block out)
     unfolding dump_block_of dump_block_left
     block_unformed n = unformed (dump_room block) (position_formed p) p (dump_stretch p block) out enough (sym e ∙ not-true formed n)
 
     pub block_fit : not formed ≡ false → (position_formed p ≡ true) × (dump_room block ≤ length out)
     block_fit n = (sym e ∙ not-false formed n, enough)
 
-    pub block_taken : (r : Converted) (left : List ℕ) → not formed ≡ false
-        → (r ≡ as_converted (dump_stretch p block)) × (left ≡ over (bytes_of (dump_stretch p block)) out)
+    pub block_taken : (r : Progress Position) (left : List ℕ) → not formed ≡ false
+        → (r ≡ progress_of (dump_stretch p block)) × (left ≡ over (bytes_of (dump_stretch p block)) out)
         → (r ≡ dump_block_of p block (length out)) × (left ≡ dump_block_left p block out)
     unfolding dump_block_of dump_block_left
     block_taken r left n h =

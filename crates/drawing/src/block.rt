@@ -1,17 +1,17 @@
 // A block of trace lines, one after the other: the step of each, and the end of the program at a line that is not taken.
 ghost use Rattle.std.specs.Prelude.{◌≡◌, true, false, ◌≤◌, ◌<◌, length};
 ghost use Rattle.rules.specs.Codes.{most_cycles};
-ghost use Rattle.streams.specs.Blocks.{bytes_of};
+ghost use Rattle.streams.specs.Blocks.{progress_of, bytes_of};
 ghost use Rattle.streams.specs.Turns.{over, Put, Lined};
 ghost use Rattle.waves.specs.Steps.{dump_step};
 ghost use Rattle.conversions.specs.Positions.{after, position_formed};
 ghost use Rattle.conversions.specs.Dumping.{dump_turn};
-ghost use Rattle.conversions.specs.Blocks.{as_converted, dump_room, dump_stretch};
+ghost use Rattle.conversions.specs.Blocks.{dump_room, dump_stretch};
 ghost use Rattle.drawing.specs.Stops.{NotTaken};
 
-use conversions::{Converted, Position};
+use conversions::Position;
 use rules::{Cycle, Refusal};
-use streams::Flow;
+use streams::{Flow, Progress};
 
 // What a cycle comes to: the bytes written, and where the conversion stands after it.
 #[derive(Clone, Copy)]
@@ -49,9 +49,9 @@ fn stop(p: Position, rest: &[u8], out: &mut [u8]) -> usize
 }
 
 // A block, line after line.
-pub fn run(p: Position, block: &[u8], out: &mut [u8]) -> Converted
+pub fn run(p: Position, block: &[u8], out: &mut [u8]) -> Progress<Position>
     requires { (position_formed p ≡ true) × (dump_room block.now ≤ length out.old) }
-    ensures { (result ≡ as_converted (dump_stretch p block.now)) × (out.new ≡ over (bytes_of (dump_stretch p block.now)) out.old) }
+    ensures { (result ≡ progress_of (dump_stretch p block.now)) × (out.new ≡ over (bytes_of (dump_stretch p block.now)) out.old) }
 {
     let digits = glances::digits();
     let mut position = p;
@@ -72,15 +72,15 @@ pub fn run(p: Position, block: &[u8], out: &mut [u8]) -> Converted
     }
     if at < block.len() {
         w += stop(position, &block[at..], &mut out[w..]);
-        return Converted {
+        return Progress {
             written: w,
             flow: Flow::Stopped,
-            position,
+            kept: position,
         };
     }
-    Converted {
+    Progress {
         written: w,
         flow: Flow::GoesOn,
-        position,
+        kept: position,
     }
 }

@@ -11,9 +11,9 @@ ghost use Rattle.waves.specs.Header.{dump_header};
 ghost use Rattle.conversions.specs.Blocks.{dump_block_of, dump_block_left};
 ghost use Rattle.conversions.specs.Heads.{dump_head_of, dump_head_left};
 
-use conversions::{Converted, Position};
+use conversions::Position;
 use formats::Word;
-use streams::Flow;
+use streams::{Flow, Progress};
 
 // The dump's header.
 fn put_header(n: u32, out: &mut [u8]) -> usize
@@ -27,46 +27,46 @@ fn put_header(n: u32, out: &mut [u8]) -> usize
 }
 
 // The header of a trace: 9, or the dump's header and the start, or the line of a refusal.
-pub fn dump_head(head: &[u8], out: &mut [u8]) -> Converted
+pub fn dump_head(head: &[u8], out: &mut [u8]) -> Progress<Position>
     ensures { (result ≡ dump_head_of head.now (length out.old)) × (out.new ≡ dump_head_left head.now out.old) }
 {
     if out.len() < 398 {
-        return Converted {
+        return Progress {
             written: 0,
             flow: Flow::Short,
-            position: positions::start(0, 2),
+            kept: positions::start(0, 2),
         };
     }
     match headers::read_header(Word::Trace, head) {
-        Ok((n, _)) => Converted {
+        Ok((n, _)) => Progress {
             written: put_header(n, out),
             flow: Flow::GoesOn,
-            position: positions::start(n, 2),
+            kept: positions::start(n, 2),
         },
-        Err(r) => Converted {
+        Err(r) => Progress {
             written: reports::put_refused(1, r, out),
             flow: Flow::Stopped,
-            position: positions::start(0, 2),
+            kept: positions::start(0, 2),
         },
     }
 }
 
 // One block of a trace: 9, 10, or its steps as far as they go.
-pub fn dump_block(p: Position, block: &[u8], out: &mut [u8]) -> Converted
+pub fn dump_block(p: Position, block: &[u8], out: &mut [u8]) -> Progress<Position>
     ensures { (result ≡ dump_block_of p block.now (length out.old)) × (out.new ≡ dump_block_left p block.now out.old) }
 {
     if out.len() / 104 < block.len() / 31 + 1 {
-        return Converted {
+        return Progress {
             written: 0,
             flow: Flow::Short,
-            position: p,
+            kept: p,
         };
     }
     if !positions::formed(p) {
-        return Converted {
+        return Progress {
             written: 0,
             flow: Flow::Unformed,
-            position: p,
+            kept: p,
         };
     }
     block::run(p, block, out)

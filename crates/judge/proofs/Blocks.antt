@@ -22,10 +22,10 @@ use Rattle.formats.specs.declared.Word.TheVariants.{Trace}
 use Rattle.formats.specs.Results.{HeaderRead}
 use Rattle.formats.specs.Headers.{read_header_of}
 use Rattle.streams.specs.declared.Tally.{Tally}
-use Rattle.streams.specs.declared.JudgeStretch.{JudgeStretch}
+use Rattle.streams.specs.declared.Progress.{Progress}
 use Rattle.streams.specs.Streams.{Stretch, on, done}
 use Rattle.streams.specs.Judging.{start_tally, judge_turn}
-use Rattle.streams.specs.Blocks.{tally_formed, judge_room, as_judge, judge_stretch, judge_block_of}
+use Rattle.streams.specs.Blocks.{tally_formed, judge_room, progress_of, judge_stretch, judge_block_of}
 use Rattle.streams.specs.Stays.{kept}
 use Rattle.streams.proofs.Near.{judge_by_lines}
 use Rattle.streams.proofs.Counted.{judge_counts}
@@ -42,28 +42,28 @@ use Rattle.console.proofs.Ends.{came}
 use Rattle.console.proofs.Onwards as onwards
 use Rattle.judge.specs.Breaches.{named, Answered}
 
-flow_is : (x : Stretch Tally) → goes_on_after (as_judge x).flow ≡ is_on named x
+flow_is : (x : Stretch Tally) → goes_on_after (progress_of x).flow ≡ is_on named x
 flow_is (on bytes b) = refl
 flow_is (done bytes b) = refl
 
-kept_is : (x : Stretch Tally) → (as_judge x).tally ≡ kept x
+kept_is : (x : Stretch Tally) → (progress_of x).kept ≡ kept x
 kept_is (on bytes b) = refl
 kept_is (done bytes b) = refl
 
 -- what a stretch answers
-of_stretch : (x : Stretch Tally) (a : JudgeStretch) (goes : Bool) (e : Ending) (t : Tally) → a ≡ as_judge x → Answered a goes e t
+of_stretch : (x : Stretch Tally) (a : Progress Tally) (goes : Bool) (e : Ending) (t : Tally) → a ≡ progress_of x → Answered a goes e t
     → Came named x goes e × (t ≡ kept x)
 of_stretch x a goes e t is r = (
-  came named x a.flow a.tally.breaches r.given (goes_on_after a.flow) goes e (rw is (flow_is x)) (rw is (ap named (kept_is x))) refl r.flow r.ending,
+  came named x a.flow a.kept.breaches r.given (goes_on_after a.flow) goes e (rw is (flow_is x)) (rw is (ap named (kept_is x))) refl r.flow r.ending,
   r.tally ∙ rw is (kept_is x),
 )
 
 module _ (b : Tally) (block : List ℕ) where
-  block_taken : (room : ℕ) → (tally_formed b ≡ true) × (judge_room block ≤ room) → judge_block_of b block room ≡ as_judge (judge_stretch b block)
+  block_taken : (room : ℕ) → (tally_formed b ≡ true) × (judge_room block ≤ room) → judge_block_of b block room ≡ progress_of (judge_stretch b block)
   unfolding judge_block_of
   block_taken room h = let l = le-ltb room (judge_room block) h.1 in rw (l, h.0)
 
-  pub answered : (room : ℕ) (a : JudgeStretch) (goes : Bool) (e : Ending) (t : Tally) → (tally_formed b ≡ true) × (judge_room block ≤ room)
+  pub answered : (room : ℕ) (a : Progress Tally) (goes : Bool) (e : Ending) (t : Tally) → (tally_formed b ≡ true) × (judge_room block ≤ room)
       → a ≡ judge_block_of b block room → Answered a goes e t → Came named (judge_stretch b block) goes e × (t ≡ kept (judge_stretch b block))
   answered room a goes e t h is r = of_stretch (judge_stretch b block) a goes e t (is ∙ block_taken room h) r
 
@@ -88,14 +88,14 @@ lent = record { line = omega arith; room = omega arith }
 pub wide : {block out : ℕ} → Lent 31 315 block out → head_room ≤ out
 wide lent = omega (arith, lent.room)
 
-module _ (head : List ℕ) (room : ℕ) (a : JudgeStretch) (is : a ≡ judge_head_of head room) (wide : head_room ≤ room) where
-  taken : a ≡ as_judge (judge_headed (read_header_of Trace head))
+module _ (head : List ℕ) (room : ℕ) (a : Progress Tally) (is : a ≡ judge_head_of head room) (wide : head_room ≤ room) where
+  taken : a ≡ progress_of (judge_headed (read_header_of Trace head))
   unfolding judge_head_of
   taken = is ∙ rw (le-ltb room head_room wide)
 
   module _ (e : Ending) (goes : Bool) (t : Tally) (r : Answered a goes e t) where
     sorted : (h : HeaderRead) → read_header_of Trace head ≡ h → Came named (judge_headed h) goes e × (t ≡ kept (judge_headed h))
-    sorted h q = of_stretch (judge_headed h) a goes e t (taken ∙ ap (λ (h : HeaderRead). as_judge (judge_headed h)) q) r
+    sorted h q = of_stretch (judge_headed h) a goes e t (taken ∙ ap (λ (h : HeaderRead). progress_of (judge_headed h)) q) r
 
     -- where a header is refused the program does not go on, and where it is accepted only a failed write stops it
     stops : (given : Bool) {P : Type 0} → given && false ≡ true → P

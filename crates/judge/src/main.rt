@@ -14,7 +14,7 @@ ghost use Rattle.judge.specs.Breaches.{named, Answered};
 
 use console::{Ending, Fed, Output};
 use std::io::{Read, Write};
-use streams::{JudgeStretch, Tally};
+use streams::{Progress, Tally};
 
 // After a read: whether the program goes on, how many bytes of a cut line are kept, how it ends if it does not go on, and what it keeps.
 #[derive(Clone, Copy)]
@@ -34,7 +34,7 @@ fn end<W: Write>(output: &mut Output<W>, b: Tally, out: &mut [u8]) -> bool {
 }
 
 // Writes what a header or a block came to.
-fn give<W: Write>(output: &mut Output<W>, a: JudgeStretch, out: &[u8]) -> After
+fn give<W: Write>(output: &mut Output<W>, a: Progress<Tally>, out: &[u8]) -> After
     ensures { Answered a result.on result.ending result.tally }
 {
     let given = console::give(output, a.written, out);
@@ -42,8 +42,8 @@ fn give<W: Write>(output: &mut Output<W>, a: JudgeStretch, out: &[u8]) -> After
     After {
         on: given & goes,
         kept: 0,
-        ending: console::ends_as(given, a.flow, a.tally.breaches),
-        tally: a.tally,
+        ending: console::ends_as(given, a.flow, a.kept.breaches),
+        tally: a.kept,
     }
 }
 

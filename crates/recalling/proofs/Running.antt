@@ -13,13 +13,13 @@ use lib.ListN.{length, take, drop}
 use Rattle.words.proofs.Words.{part_rest}
 use Rattle.streams.specs.declared.Flow.TheVariants.{Stopped}
 use Rattle.streams.specs.Streams.{Turn, goes, stops}
-use Rattle.streams.specs.Blocks.{bytes_of}
+use Rattle.streams.specs.Blocks.{progress_of, bytes_of}
 use Rattle.streams.specs.Going.{Going}
 use Rattle.streams.specs.Turns.{over, goes_on, taken_by}
 use Rattle.streams.proofs.Stretches.{room, same_size, small, later_size, goes_on_lem, stopped}
 use Rattle.conversions.specs.declared.Position.{Position}
 use Rattle.conversions.specs.Undumping.{undump_turn}
-use Rattle.conversions.specs.Blocks.{as_converted, undump_room, undump_stretch}
+use Rattle.conversions.specs.Blocks.{undump_room, undump_stretch}
 use Rattle.conversions.proofs.Positions.{Formed}
 use Rattle.conversions.proofs.UndumpSteps.{undump_next}
 use Rattle.conversions.proofs.UndumpLines.{undump_program_lem, block_stopped}
@@ -52,7 +52,7 @@ module _ {p₀ : Position} {block out₀ : List ℕ} {p : Position} {at : ℕ} {
         (goes_on_lem undump_program_lem g more s.lined n took yes, omega (arith, took, goes_far flow))
 
     pub went_out : not on ≡ true
-        → (record { written = w + k; flow = Stopped; position = q } ≡ as_converted (undump_stretch p₀ block)) × (later ≡ over (bytes_of (undump_stretch p₀ block)) out₀)
+        → (record { written = w + k; flow = Stopped; kept = q } ≡ progress_of (undump_stretch p₀ block)) × (later ≡ over (bytes_of (undump_stretch p₀ block)) out₀)
     went_out e = block_stopped (stopped undump_program_lem g more s.lined (not-true on e))
 
     pub fits_in : undump_room block ≤ length out₀ → w + k ≤ length out₀

@@ -7,7 +7,7 @@ use contract.Lifetimes.{Lfts}
 use denote.Ref.{Bor}
 use denote.MutBor.{MutBor}
 use Rattle.conversions.specs.declared.Position.{Position}
-use Rattle.conversions.specs.declared.Converted.{Converted}
+use Rattle.streams.specs.declared.Progress.{Progress}
 use Rattle.recalling.proofs.undump_head.Reads as undump_head
 use Rattle.recalling.proofs.undump_block.Reads as undump_block
 
@@ -17,7 +17,7 @@ Bytes = Bor (List ℕ)
 abbrev Buffer : Type 0
 Buffer = MutBor (List ℕ)
 
-module _ (κs : Lfts 2) (input : Bytes) (buf out out' : Buffer) (r r' : Converted) where
+module _ (κs : Lfts 2) (input : Bytes) (buf out out' : Buffer) (r r' : Progress Position) where
   pub undump_head_unique : undump_head.Post κs (input, (buf, tt)) r (input, (out, tt))
       → undump_head.Post κs (input, (buf, tt)) r' (input, (out', tt))
       → (r ≡ r') × (out.now ≡ out'.now)

@@ -1,16 +1,16 @@
 // A block of steps, one after the other: the trace line of each, and the end of the program at a step that is refused.
 ghost use Rattle.std.specs.Prelude.{◌≡◌, true, ◌≤◌, length, take as front};
-ghost use Rattle.streams.specs.Blocks.{bytes_of};
+ghost use Rattle.streams.specs.Blocks.{progress_of, bytes_of};
 ghost use Rattle.streams.specs.Turns.{over};
 ghost use Rattle.waves.specs.Reading.{read_step_of};
 ghost use Rattle.waves.specs.Files.{lines_in};
 ghost use Rattle.conversions.specs.Positions.{position_formed};
-ghost use Rattle.conversions.specs.Blocks.{undump_room, as_converted, undump_stretch};
+ghost use Rattle.conversions.specs.Blocks.{undump_room, undump_stretch};
 ghost use Rattle.recalling.specs.Stepped.{Stepped};
 
-use conversions::{Converted, Position};
+use conversions::Position;
 use rules::Cycle;
-use streams::Flow;
+use streams::{Flow, Progress};
 
 // What a step came to: the bytes written, those of the step, whether the program goes on, and where it stands.
 #[derive(Clone, Copy)]
@@ -97,9 +97,9 @@ fn step(p: Position, rest: &[u8], out: &mut [u8]) -> Went
 }
 
 // A block, step after step.
-pub fn run(p: Position, block: &[u8], out: &mut [u8]) -> Converted
+pub fn run(p: Position, block: &[u8], out: &mut [u8]) -> Progress<Position>
     requires { (position_formed p ≡ true) × (undump_room block.now ≤ length out.old) }
-    ensures { (result ≡ as_converted (undump_stretch p block.now)) × (out.new ≡ over (bytes_of (undump_stretch p block.now)) out.old) }
+    ensures { (result ≡ progress_of (undump_stretch p block.now)) × (out.new ≡ over (bytes_of (undump_stretch p block.now)) out.old) }
 {
     let mut position = p;
     let mut at: usize = 0;
@@ -109,18 +109,18 @@ pub fn run(p: Position, block: &[u8], out: &mut [u8]) -> Converted
         let next = went.position;
         w += went.written;
         if !went.on {
-            return Converted {
+            return Progress {
                 written: w,
                 flow: Flow::Stopped,
-                position: next,
+                kept: next,
             };
         }
         position = next;
         at += went.taken;
     }
-    Converted {
+    Progress {
         written: w,
         flow: Flow::GoesOn,
-        position,
+        kept: position,
     }
 }

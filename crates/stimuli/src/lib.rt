@@ -7,14 +7,14 @@ ghost use Rattle.rules.specs.State.{WellFormed};
 ghost use Rattle.rules.specs.Step.{step_of};
 ghost use Rattle.formats.specs.Lines.{read_stimulus_of};
 ghost use Rattle.streams.specs.Arbiter.{stepped, arbiter_turn};
-ghost use Rattle.streams.specs.Blocks.{arbiter_room, as_arbiter, arbiter_stretch, bytes_of};
+ghost use Rattle.streams.specs.Blocks.{arbiter_room, progress_of, arbiter_stretch, bytes_of};
 ghost use Rattle.streams.specs.Turns.{Lined, over};
 ghost use Rattle.buses.specs.Buses.{state_from, Fit};
 ghost use Rattle.stimuli.specs.Stops.{NotTaken};
 
 use buses::Bus;
 use rules::{Cycle, Inputs, Refusal, State};
-use streams::{ArbiterStretch, Flow};
+use streams::{Flow, Progress};
 
 // A cycle that the arbiter takes: the trace line of its stimulus line is written.
 fn go(n: u32, b: Bus, x: Inputs, rest: &[u8], out: &mut [u8]) -> Bus
@@ -44,9 +44,9 @@ fn stop(s: State, rest: &[u8], out: &mut [u8]) -> usize
 }
 
 // A block, line after line.
-pub fn run(s: State, block: &[u8], out: &mut [u8]) -> ArbiterStretch
+pub fn run(s: State, block: &[u8], out: &mut [u8]) -> Progress<State>
     requires { WellFormed s × (arbiter_room block.now ≤ length out.old) }
-    ensures { (result ≡ as_arbiter (arbiter_stretch s block.now)) × (out.new ≡ over (bytes_of (arbiter_stretch s block.now)) out.old) }
+    ensures { (result ≡ progress_of (arbiter_stretch s block.now)) × (out.new ≡ over (bytes_of (arbiter_stretch s block.now)) out.old) }
 {
     let digits = glances::digits();
     let n = s.n;
@@ -68,15 +68,15 @@ pub fn run(s: State, block: &[u8], out: &mut [u8]) -> ArbiterStretch
     let state = buses::state(n, bus);
     if at < block.len() {
         w += stop(state, &block[at..], &mut out[w..]);
-        return ArbiterStretch {
+        return Progress {
             written: w,
             flow: Flow::Stopped,
-            state,
+            kept: state,
         };
     }
-    ArbiterStretch {
+    Progress {
         written: w,
         flow: Flow::GoesOn,
-        state,
+        kept: state,
     }
 }

@@ -15,11 +15,10 @@ use lib.ListN.{length}
 use Rattle.rules.specs.declared.State.{State}
 use Rattle.rules.specs.State.{well_formed, WellFormed}
 use Rattle.rules.proofs.WellFormed.{facts_of}
-use Rattle.streams.specs.declared.ArbiterStretch.{ArbiterStretch}
+use Rattle.streams.specs.declared.Progress.{Progress}
 use Rattle.streams.specs.declared.Tally.{Tally}
-use Rattle.streams.specs.declared.JudgeStretch.{JudgeStretch}
 use Rattle.streams.specs.declared.Flow.TheVariants.{Short, Unformed}
-use Rattle.streams.specs.Blocks.{room_for, bytes_of, as_arbiter, arbiter_room, arbiter_stretch, arbiter_block_of, arbiter_block_left, tally_formed, as_judge, judge_room, judge_stretch, judge_block_of, judge_block_left}
+use Rattle.streams.specs.Blocks.{room_for, bytes_of, progress_of, arbiter_room, arbiter_stretch, arbiter_block_of, arbiter_block_left, tally_formed, judge_room, judge_stretch, judge_block_of, judge_block_left}
 use Rattle.streams.specs.Turns.{over}
 use Rattle.streams.specs.Breaches.{Formed}
 use Rattle.streams.proofs.Stays.{tally_facts}
@@ -38,13 +37,13 @@ module _ (width most : ℕ) (some : 1 ≤ most) (block out : List ℕ) where
 
 module _ (s : State) (block out : List ℕ) where
   pub arbiter_short : length out / 31 < length block / 16 + 1
-      → (record { written = 0; flow = Short; state = s } ≡ arbiter_block_of s block (length out)) × (out ≡ arbiter_block_left s block out)
+      → (record { written = 0; flow = Short; kept = s } ≡ arbiter_block_of s block (length out)) × (out ≡ arbiter_block_left s block out)
   unfolding arbiter_block_of arbiter_block_left
   arbiter_short h = let t = short_room 16 31 (omega arith) block out h in (rw t, rw t)
 
   module _ (formed : Bool) (big : length block / 16 + 1 ≤ length out / 31) (e : formed ≡ well_formed s) where
     pub arbiter_unformed : not formed ≡ true
-        → (record { written = 0; flow = Unformed; state = s } ≡ arbiter_block_of s block (length out)) × (out ≡ arbiter_block_left s block out)
+        → (record { written = 0; flow = Unformed; kept = s } ≡ arbiter_block_of s block (length out)) × (out ≡ arbiter_block_left s block out)
     unfolding arbiter_block_of arbiter_block_left
     arbiter_unformed n =
         let t = roomy 16 31 (omega arith) block out big in
@@ -54,8 +53,8 @@ module _ (s : State) (block out : List ℕ) where
     pub arbiter_fit : not formed ≡ false → WellFormed s × (arbiter_room block ≤ length out)
     arbiter_fit n = (facts_of s (sym e ∙ not-false formed n), enough_room 16 31 (omega arith) block out big)
 
-    pub arbiter_formed : (r : ArbiterStretch) (left : List ℕ) → not formed ≡ false
-        → (r ≡ as_arbiter (arbiter_stretch s block)) × (left ≡ over (bytes_of (arbiter_stretch s block)) out)
+    pub arbiter_formed : (r : Progress State) (left : List ℕ) → not formed ≡ false
+        → (r ≡ progress_of (arbiter_stretch s block)) × (left ≡ over (bytes_of (arbiter_stretch s block)) out)
         → (r ≡ arbiter_block_of s block (length out)) × (left ≡ arbiter_block_left s block out)
     unfolding arbiter_block_of arbiter_block_left
     arbiter_formed r left n h =
@@ -65,13 +64,13 @@ module _ (s : State) (block out : List ℕ) where
 
 module _ (b : Tally) (block out : List ℕ) where
   pub judge_short : length out / 315 < length block / 31 + 1
-      → (record { written = 0; flow = Short; tally = b } ≡ judge_block_of b block (length out)) × (out ≡ judge_block_left b block out)
+      → (record { written = 0; flow = Short; kept = b } ≡ judge_block_of b block (length out)) × (out ≡ judge_block_left b block out)
   unfolding judge_block_of judge_block_left
   judge_short h = let t = short_room 31 315 (omega arith) block out h in (rw t, rw t)
 
   module _ (formed : Bool) (big : length block / 31 + 1 ≤ length out / 315) (e : formed ≡ tally_formed b) where
     pub judge_unformed : not formed ≡ true
-        → (record { written = 0; flow = Unformed; tally = b } ≡ judge_block_of b block (length out)) × (out ≡ judge_block_left b block out)
+        → (record { written = 0; flow = Unformed; kept = b } ≡ judge_block_of b block (length out)) × (out ≡ judge_block_left b block out)
     unfolding judge_block_of judge_block_left
     judge_unformed n =
         let t = roomy 31 315 (omega arith) block out big in
@@ -81,8 +80,8 @@ module _ (b : Tally) (block out : List ℕ) where
     pub judge_fit : not formed ≡ false → length b.judge.lost ≡ 16 → Formed b × (judge_room block ≤ length out)
     judge_fit n size = (tally_facts b size (sym e ∙ not-false formed n), enough_room 31 315 (omega arith) block out big)
 
-    pub judge_formed_lem : (r : JudgeStretch) (left : List ℕ) → not formed ≡ false
-        → (r ≡ as_judge (judge_stretch b block)) × (left ≡ over (bytes_of (judge_stretch b block)) out)
+    pub judge_formed_lem : (r : Progress Tally) (left : List ℕ) → not formed ≡ false
+        → (r ≡ progress_of (judge_stretch b block)) × (left ≡ over (bytes_of (judge_stretch b block)) out)
         → (r ≡ judge_block_of b block (length out)) × (left ≡ judge_block_left b block out)
     unfolding judge_block_of judge_block_left
     judge_formed_lem r left n h =

@@ -90,13 +90,13 @@ not_started b e = e
 
 module _ (s buffer : List ℕ) (b : Tally) where
   pub judge_too_short : length buffer < head_room → b ≡ record { judge = (start_of 0).judge; breaches = 0 }
-      → (record { written = 0; flow = flow.Short; tally = b } ≡ judge_head_of s (length buffer)) × (buffer ≡ judge_head_left s buffer)
+      → (record { written = 0; flow = flow.Short; kept = b } ≡ judge_head_of s (length buffer)) × (buffer ≡ judge_head_left s buffer)
   unfolding judge_head_of judge_head_left
   judge_too_short h f = let t = lt-ltb (length buffer) 31 h in (rw (t, not_started b f), rw t)
 
   module _ (a : HeaderRead) (room : head_room ≤ length buffer) (e : a ≡ read_header_of Trace s) where
     pub judge_begun : (n next : ℕ) → a ≡ Ok (n, next) → b ≡ record { judge = (start_of n).judge; breaches = 0 }
-        → (record { written = 0; flow = flow.GoesOn; tally = b } ≡ judge_head_of s (length buffer)) × (buffer ≡ judge_head_left s buffer)
+        → (record { written = 0; flow = flow.GoesOn; kept = b } ≡ judge_head_of s (length buffer)) × (buffer ≡ judge_head_left s buffer)
     unfolding judge_head_of judge_head_left
     judge_begun n next f g =
         let t = le-ltb (length buffer) 31 room in
@@ -105,7 +105,7 @@ module _ (s buffer : List ℕ) (b : Tally) where
 
     pub judge_refused : (r : Refusal) (k : ℕ) (out : List ℕ) → a ≡ Err r → b ≡ record { judge = (start_of 0).judge; breaches = 0 }
         → Put (refused_line 1 r) buffer k out
-        → (record { written = k; flow = flow.Stopped; tally = b } ≡ judge_head_of s (length buffer)) × (out ≡ judge_head_left s buffer)
+        → (record { written = k; flow = flow.Stopped; kept = b } ≡ judge_head_of s (length buffer)) × (out ≡ judge_head_left s buffer)
     unfolding judge_head_of judge_head_left
     judge_refused r k out f g p =
         let t = le-ltb (length buffer) 31 room in

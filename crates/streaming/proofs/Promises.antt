@@ -11,7 +11,7 @@ use Rattle.formats.specs.Headers.{read_header_of}
 use Rattle.streams.specs.Streams.{written}
 use Rattle.streams.specs.Arbiter.{arbiter_turn, arbiter_program}
 use Rattle.streams.specs.Judging.{judge_program}
-use Rattle.streams.specs.Blocks.{flow_answer, as_judge}
+use Rattle.streams.specs.Blocks.{flow_answer, progress_of}
 use Rattle.streams.proofs.Heads.{head_near, head_size_lem}
 use Rattle.streams.proofs.Promises.{arbiter_in_blocks, judge_in_blocks}
 use Rattle.streaming.specs.Promises.{arbiter_run, judge_run, ArbiterAsRun, JudgeAsRun, HeadsByNumber, ArbiterEnds, JudgeEnds}
@@ -48,7 +48,7 @@ arbiter_headed_lem : (h : HeaderRead) → head_answer (arbiter_headed h) ≡ 0
 arbiter_headed_lem (Ok (n, next)) = refl
 arbiter_headed_lem (Err r) = refl
 
-judge_headed_lem : (h : HeaderRead) → flow_answer (as_judge (judge_headed h)).flow ≡ 0
+judge_headed_lem : (h : HeaderRead) → flow_answer (progress_of (judge_headed h)).flow ≡ 0
 judge_headed_lem (Ok (n, next)) = refl
 judge_headed_lem (Err r) = refl
 

@@ -8,9 +8,8 @@ use denote.Ref.{Bor}
 use denote.MutBor.{MutBor}
 use Rattle.rules.specs.declared.State.{State}
 use Rattle.formats.specs.Results.{Written}
-use Rattle.streams.specs.declared.ArbiterStretch.{ArbiterStretch}
+use Rattle.streams.specs.declared.Progress.{Progress}
 use Rattle.streams.specs.declared.Tally.{Tally}
-use Rattle.streams.specs.declared.JudgeStretch.{JudgeStretch}
 use Rattle.streaming.specs.declared.ArbiterHead.{ArbiterHead}
 use Rattle.streaming.proofs.arbiter_head.Reads as arbiter_head
 use Rattle.streaming.proofs.arbiter_block.Reads as arbiter_block
@@ -32,19 +31,19 @@ module _ (buf out out' : Buffer) where
         → (r ≡ r') × (out.now ≡ out'.now)
     arbiter_head_unique r r' p q = (p.0 ∙ sym q.0, p.1 ∙ sym q.1)
 
-    pub arbiter_block_unique : (s : State) (r r' : ArbiterStretch)
+    pub arbiter_block_unique : (s : State) (r r' : Progress State)
         → arbiter_block.Post κs (s, (input, (buf, tt))) r (s, (input, (out, tt)))
         → arbiter_block.Post κs (s, (input, (buf, tt))) r' (s, (input, (out', tt)))
         → (r ≡ r') × (out.now ≡ out'.now)
     arbiter_block_unique s r r' p q = (p.0 ∙ sym q.0, p.1 ∙ sym q.1)
 
-    pub judge_head_unique : (r r' : JudgeStretch)
+    pub judge_head_unique : (r r' : Progress Tally)
         → judge_head.Post κs (input, (buf, tt)) r (input, (out, tt))
         → judge_head.Post κs (input, (buf, tt)) r' (input, (out', tt))
         → (r ≡ r') × (out.now ≡ out'.now)
     judge_head_unique r r' p q = (p.0 ∙ sym q.0, p.1 ∙ sym q.1)
 
-    pub judge_block_unique : (b : Tally) (r r' : JudgeStretch)
+    pub judge_block_unique : (b : Tally) (r r' : Progress Tally)
         → judge_block.Post κs (b, (input, (buf, tt))) r (b, (input, (out, tt)))
         → judge_block.Post κs (b, (input, (buf, tt))) r' (b, (input, (out', tt)))
         → (r ≡ r') × (out.now ≡ out'.now)

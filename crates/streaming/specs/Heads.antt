@@ -17,10 +17,10 @@ use Rattle.formats.specs.Lines.{left}
 use Rattle.formats.specs.Report.{refused_line, write_of}
 use Rattle.streams.specs.declared.Tally.{Tally}
 use Rattle.streams.specs.declared.Flow.TheVariants as flow
-use Rattle.streams.specs.declared.JudgeStretch.{JudgeStretch}
+use Rattle.streams.specs.declared.Progress.{Progress}
 use Rattle.streams.specs.Streams.{written, Stretch, on, done}
 use Rattle.streams.specs.Judging.{judge_turn, start_tally}
-use Rattle.streams.specs.Blocks.{tally_formed, left_by, as_judge}
+use Rattle.streams.specs.Blocks.{tally_formed, left_by, progress_of}
 use Rattle.streaming.specs.declared.ArbiterHead.{ArbiterHead}
 use Rattle.streaming.specs.declared.ArbiterHead.TheVariants.{Begun, Refused, Short}
 use Rattle.streams.specs.Turns.{over}
@@ -55,9 +55,9 @@ abbrev pub judge_headed : HeaderRead → Stretch Tally
 judge_headed (Ok (n, next)) = on [] (start_tally n)
 judge_headed (Err r) = done (refused_line 1 r) (start_tally 0)
 
-unfoldable pub judge_head_of : List ℕ → ℕ → JudgeStretch
+unfoldable pub judge_head_of : List ℕ → ℕ → Progress Tally
 judge_head_of s room =
-    cond (ltb room head_room) (record { written = 0; flow = flow.Short; tally = start_tally 0 }) (as_judge (judge_headed (read_header_of Trace s)))
+    cond (ltb room head_room) (record { written = 0; flow = flow.Short; kept = start_tally 0 }) (progress_of (judge_headed (read_header_of Trace s)))
 
 unfoldable pub judge_head_left : List ℕ → List ℕ → List ℕ
 judge_head_left s buffer = left_by head_room true (judge_headed (read_header_of Trace s)) buffer

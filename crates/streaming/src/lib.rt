@@ -14,7 +14,7 @@ ghost use Rattle.streaming.specs.Heads.{arbiter_head_of, arbiter_head_left, judg
 
 use formats::Word;
 use rules::{Refusal, State};
-use streams::{ArbiterStretch, Flow, JudgeStretch, Tally};
+use streams::{Flow, Progress, Tally};
 
 // What a stimulus header comes to: the bytes of the trace's header and the state to go on from, those of a refusal line, or 9.
 #[derive(Clone, Copy)]
@@ -49,21 +49,21 @@ pub fn arbiter_head(head: &[u8], out: &mut [u8]) -> ArbiterHead
 }
 
 // One block of a stimulus: 9, 10, or its trace lines as far as the arbiter goes.
-pub fn arbiter_block(s: State, block: &[u8], out: &mut [u8]) -> ArbiterStretch
+pub fn arbiter_block(s: State, block: &[u8], out: &mut [u8]) -> Progress<State>
     ensures { (result ≡ arbiter_block_of s block.now (length out.old)) × (out.new ≡ arbiter_block_left s block.now out.old) }
 {
     if out.len() / 31 < block.len() / 16 + 1 {
-        return ArbiterStretch {
+        return Progress {
             written: 0,
             flow: Flow::Short,
-            state: s,
+            kept: s,
         };
     }
     if !arbitration::well_formed(s) {
-        return ArbiterStretch {
+        return Progress {
             written: 0,
             flow: Flow::Unformed,
-            state: s,
+            kept: s,
         };
     }
     stimuli::run(s, block, out)
@@ -79,26 +79,26 @@ fn tally(n: u32) -> Tally
 }
 
 // The header of a trace: 9, or the judge at its start, or the line of a refusal.
-pub fn judge_head(head: &[u8], out: &mut [u8]) -> JudgeStretch
+pub fn judge_head(head: &[u8], out: &mut [u8]) -> Progress<Tally>
     ensures { (result ≡ judge_head_of head.now (length out.old)) × (out.new ≡ judge_head_left head.now out.old) }
 {
     if out.len() < 31 {
-        return JudgeStretch {
+        return Progress {
             written: 0,
             flow: Flow::Short,
-            tally: tally(0),
+            kept: tally(0),
         };
     }
     match headers::read_header(Word::Trace, head) {
-        Ok((n, _)) => JudgeStretch {
+        Ok((n, _)) => Progress {
             written: 0,
             flow: Flow::GoesOn,
-            tally: tally(n),
+            kept: tally(n),
         },
-        Err(r) => JudgeStretch {
+        Err(r) => Progress {
             written: reports::put_refused(1, r, out),
             flow: Flow::Stopped,
-            tally: tally(0),
+            kept: tally(0),
         },
     }
 }
@@ -113,21 +113,21 @@ fn tally_formed(b: Tally) -> bool
 }
 
 // One block of a trace: 9, 10, or its breach lines as far as the judge goes.
-pub fn judge_block(b: Tally, block: &[u8], out: &mut [u8]) -> JudgeStretch
+pub fn judge_block(b: Tally, block: &[u8], out: &mut [u8]) -> Progress<Tally>
     ensures { (result ≡ judge_block_of b block.now (length out.old)) × (out.new ≡ judge_block_left b block.now out.old) }
 {
     if out.len() / 315 < block.len() / 31 + 1 {
-        return JudgeStretch {
+        return Progress {
             written: 0,
             flow: Flow::Short,
-            tally: b,
+            kept: b,
         };
     }
     if !tally_formed(b) {
-        return JudgeStretch {
+        return Progress {
             written: 0,
             flow: Flow::Unformed,
-            tally: b,
+            kept: b,
         };
     }
     traces::run(b, block, out)

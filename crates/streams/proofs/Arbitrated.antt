@@ -31,7 +31,7 @@ use Rattle.formats.specs.Report.{refused_line}
 use Rattle.streams.specs.declared.Flow.TheVariants.{GoesOn, Stopped}
 use Rattle.streams.specs.Streams.{on, done}
 use Rattle.streams.specs.Arbiter.{stepped, stimulated, arbiter_turn}
-use Rattle.streams.specs.Blocks.{as_arbiter, arbiter_stretch, bytes_of}
+use Rattle.streams.specs.Blocks.{progress_of, arbiter_stretch, bytes_of}
 use Rattle.streams.specs.Turns.{over, bytes_in, state_after, Put, Lined}
 use Rattle.streams.proofs.Lines.{stepping}
 use Rattle.streams.proofs.Near.{arbiter_by_lines}
@@ -113,9 +113,9 @@ arbiter_program_lem = record { longest = 16; lines = stepping arbiter_by_lines; 
 
 module _ {s₀ : State} {block out₀ : List ℕ} {s : State} {out : List ℕ} {w : ℕ} where
   pub block_stopped : Ended arbiter_turn s₀ block out₀ done s out w
-      → (record { written = w; flow = Stopped; state = s } ≡ as_arbiter (arbiter_stretch s₀ block)) × (out ≡ over (bytes_of (arbiter_stretch s₀ block)) out₀)
+      → (record { written = w; flow = Stopped; kept = s } ≡ progress_of (arbiter_stretch s₀ block)) × (out ≡ over (bytes_of (arbiter_stretch s₀ block)) out₀)
   block_stopped e = (rw (e.is, e.size), rw e.is e.puts)
 
   pub block_used : Ended arbiter_turn s₀ block out₀ on s out w
-      → (record { written = w; flow = GoesOn; state = s } ≡ as_arbiter (arbiter_stretch s₀ block)) × (out ≡ over (bytes_of (arbiter_stretch s₀ block)) out₀)
+      → (record { written = w; flow = GoesOn; kept = s } ≡ progress_of (arbiter_stretch s₀ block)) × (out ≡ over (bytes_of (arbiter_stretch s₀ block)) out₀)
   block_used e = (rw (e.is, e.size), rw e.is e.puts)

@@ -19,15 +19,15 @@ use Rattle.rules.proofs.WellFormed.{facts_of}
 use Rattle.rulebook.specs.State.{well_formed as judge_formed}
 use Rattle.streams.specs.declared.Flow.{Flow}
 use Rattle.streams.specs.declared.Flow.TheVariants.{GoesOn, Short, Unformed}
-use Rattle.streams.specs.declared.ArbiterStretch.{ArbiterStretch}
+use Rattle.streams.specs.declared.Progress.{Progress}
 use Rattle.streams.specs.declared.Tally.{Tally}
-use Rattle.streams.specs.declared.JudgeStretch.{JudgeStretch}
 use Rattle.streams.specs.Streams.{Turn, Stretch, on, done, stretch}
 use Rattle.streams.specs.Arbiter.{arbiter_turn}
 use Rattle.streams.specs.Judging.{judge_turn}
-use Rattle.streams.specs.Blocks.{Stepping, arbiter_room, as_arbiter, arbiter_stretch, arbiter_block_of, tally_formed, judge_room, as_judge, judge_stretch, judge_block_of}
+use Rattle.streams.specs.Blocks.{Stepping, arbiter_room, progress_of, arbiter_stretch, arbiter_block_of, tally_formed, judge_room, judge_stretch, judge_block_of}
 use Rattle.streams.specs.Enough.{has_stopped, BlocksAreCounted, MoreLinesStop}
 use Rattle.streams.proofs.Lines.{stepping}
+use Rattle.streams.proofs.Taken.{progress_on}
 use Rattle.streams.proofs.Near.{arbiter_by_lines, judge_by_lines}
 use Rattle.streams.proofs.Counted.{Counting, Used, used, arbiter_counts, judge_counts}
 
@@ -64,14 +64,6 @@ on_only flow few taken ill true formed e f g next = let z : ◌≡◌ {A = ℕ} 
 on_only flow few taken ill false true e f g next = next refl g refl
 on_only flow few taken ill false false e f g next = let z : ◌≡◌ {A = ℕ} 0 1 = cc in absurd (omega arith)
 
-arbiter_on : (x : Stretch State) → (as_arbiter x).flow ≡ GoesOn → (bytes : List ℕ) × (x ≡ on bytes (as_arbiter x).state)
-arbiter_on (on bytes s) e = (bytes, refl)
-arbiter_on (done bytes s) e = let z : ◌≡◌ {A = ℕ} 0 1 = cc in absurd (omega arith)
-
-judge_on : (x : Stretch Tally) → (as_judge x).flow ≡ GoesOn → (bytes : List ℕ) × (x ≡ on bytes (as_judge x).tally)
-judge_on (on bytes s) e = (bytes, refl)
-judge_on (done bytes s) e = let z : ◌≡◌ {A = ℕ} 0 1 = cc in absurd (omega arith)
-
 pub tally_room : (b : Tally) → tally_formed b ≡ true → b.judge.count ≤ most_cycles
 unfolding tally_formed judge_formed
 tally_room b e =
@@ -83,15 +75,15 @@ unfolding arbiter_block_of judge_block_of
 blocks_are_counted =
     record {
       arbiter_block = λ s block room e.
-          on_only (λ (a : ArbiterStretch). a.flow) _ (as_arbiter (arbiter_stretch s block)) _ (ltb room (arbiter_room block)) (well_formed s) refl refl e
+          on_only (λ (a : Progress State). a.flow) _ (progress_of (arbiter_stretch s block)) _ (ltb room (arbiter_room block)) (well_formed s) refl refl e
           (λ formed goes is.
-          let q = arbiter_on (arbiter_stretch s block) goes in
-          let u = whole_used arbiter_turn (stepping arbiter_by_lines) (λ s. s.count) arbiter_counts s (as_arbiter (arbiter_stretch s block)).state block q.0 q.1 in
+          let q = progress_on (arbiter_stretch s block) goes in
+          let u = whole_used arbiter_turn (stepping arbiter_by_lines) (λ s. s.count) arbiter_counts s (progress_of (arbiter_stretch s block)).kept block q.0 q.1 in
           rw is (omega (arith, u.at_least, u.at_most, u.counted), u.room (facts_of s formed).room));
       judge_block = λ b block room e.
-          on_only (λ (a : JudgeStretch). a.flow) _ (as_judge (judge_stretch b block)) _ (ltb room (judge_room block)) (tally_formed b) refl refl e
+          on_only (λ (a : Progress Tally). a.flow) _ (progress_of (judge_stretch b block)) _ (ltb room (judge_room block)) (tally_formed b) refl refl e
           (λ formed goes is.
-          let q = judge_on (judge_stretch b block) goes in
-          let u = whole_used judge_turn (stepping judge_by_lines) (λ b. b.judge.count) judge_counts b (as_judge (judge_stretch b block)).tally block q.0 q.1 in
+          let q = progress_on (judge_stretch b block) goes in
+          let u = whole_used judge_turn (stepping judge_by_lines) (λ b. b.judge.count) judge_counts b (progress_of (judge_stretch b block)).kept block q.0 q.1 in
           rw is (omega (arith, u.at_least, u.at_most, u.counted), u.room (tally_room b formed)));
     }

@@ -28,7 +28,7 @@ use Rattle.streams.specs.declared.Tally.{Tally}
 use Rattle.streams.specs.declared.Flow.TheVariants.{GoesOn, Stopped}
 use Rattle.streams.specs.Streams.{Turn, on, done}
 use Rattle.streams.specs.Judging.{breach_lines, judged_to, traced, judge_turn}
-use Rattle.streams.specs.Blocks.{as_judge, judge_stretch, bytes_of}
+use Rattle.streams.specs.Blocks.{progress_of, judge_stretch, bytes_of}
 use Rattle.streams.proofs.Lines.{stepping}
 use Rattle.streams.proofs.Near.{judge_by_lines}
 use Rattle.streams.specs.Turns.{over, bytes_in, state_after, Put, Lined}
@@ -138,9 +138,9 @@ judge_program_lem =
 
 module _ {b₀ : Tally} {block out₀ : List ℕ} {b : Tally} {out : List ℕ} {w : ℕ} where
   pub block_stopped : Ended judge_turn b₀ block out₀ done b out w
-      → (record { written = w; flow = Stopped; tally = b } ≡ as_judge (judge_stretch b₀ block)) × (out ≡ over (bytes_of (judge_stretch b₀ block)) out₀)
+      → (record { written = w; flow = Stopped; kept = b } ≡ progress_of (judge_stretch b₀ block)) × (out ≡ over (bytes_of (judge_stretch b₀ block)) out₀)
   block_stopped e = (rw (e.is, e.size), rw e.is e.puts)
 
   pub block_used : Ended judge_turn b₀ block out₀ on b out w
-      → (record { written = w; flow = GoesOn; tally = b } ≡ as_judge (judge_stretch b₀ block)) × (out ≡ over (bytes_of (judge_stretch b₀ block)) out₀)
+      → (record { written = w; flow = GoesOn; kept = b } ≡ progress_of (judge_stretch b₀ block)) × (out ≡ over (bytes_of (judge_stretch b₀ block)) out₀)
   block_used e = (rw (e.is, e.size), rw e.is e.puts)

@@ -8,6 +8,7 @@ pub mod Sizes
 pub mod Arbitrated
 pub mod Judged
 pub mod Stays
+pub mod Taken
 pub mod Promises
 pub mod Counted
 pub mod Enough

@@ -11,16 +11,15 @@ use Rattle.rules.specs.State.{reset_state, well_formed}
 use Rattle.formats.specs.declared.Word.TheVariants.{Trace}
 use Rattle.formats.specs.Headers.{header}
 use Rattle.streams.specs.declared.Flow.{Flow}
-use Rattle.streams.specs.declared.ArbiterStretch.{ArbiterStretch}
+use Rattle.streams.specs.declared.Progress.{Progress}
 use Rattle.streams.specs.declared.Tally.{Tally}
-use Rattle.streams.specs.declared.JudgeStretch.{JudgeStretch}
 use Rattle.streams.specs.Arbiter.{arbiter_turn, arbiter_program}
 use Rattle.streams.specs.Judging.{judge_turn, start_tally, judge_program}
-use Rattle.streams.specs.Streams.{Stretch, on, done}
-use Rattle.streams.specs.Blocks.{joined, flow_answer, arbiter_room, as_arbiter, arbiter_stretch, arbiter_block_of, arbiter_block_left, tally_formed, judge_room, as_judge, judge_stretch, judge_block_of, judge_block_left}
+use Rattle.streams.specs.Blocks.{joined, flow_answer, arbiter_room, progress_of, arbiter_stretch, arbiter_block_of, arbiter_block_left, tally_formed, judge_room, judge_stretch, judge_block_of, judge_block_left}
 use Rattle.streams.specs.Promises.{ArbiterInBlocks, JudgeInBlocks, RefusedBlocksKept}
 use Rattle.streams.proofs.Cut.{in_blocks_lem}
 use Rattle.streams.proofs.Lines.{stepping, cutting, all_cut}
+use Rattle.streams.proofs.Taken.{progress_taken}
 use Rattle.streams.proofs.Near.{arbiter_by_lines, judge_by_lines}
 
 pub shorter : (s rest : List ℕ) (next : ℕ) → drop next s ≡ rest → length rest < suc (length s)
@@ -48,24 +47,16 @@ kept flow state few taken ill s after buffer true formed e f g h = (e, refl)
 kept flow state few taken ill s after buffer false true e f g h = absurd (h f)
 kept flow state few taken ill s after buffer false false e f g h = (g, refl)
 
-arbiter_taken : (t : Stretch State) → flow_answer (as_arbiter t).flow ≡ 0
-arbiter_taken (on bytes s) = refl
-arbiter_taken (done bytes s) = refl
-
-judge_taken : (t : Stretch Tally) → flow_answer (as_judge t).flow ≡ 0
-judge_taken (on bytes b) = refl
-judge_taken (done bytes b) = refl
-
 pub refused_blocks_kept : RefusedBlocksKept
 unfolding arbiter_block_of arbiter_block_left judge_block_of judge_block_left
 refused_blocks_kept =
     record {
       arbiter_block = λ s block buffer h.
-          kept (λ (a : ArbiterStretch). a.flow) (λ a. a.state) _ (as_arbiter (arbiter_stretch s block)) _ s _ buffer
+          kept (λ (a : Progress State). a.flow) (λ a. a.kept) _ (progress_of (arbiter_stretch s block)) _ s _ buffer
           (ltb (length buffer) (arbiter_room block)) (well_formed s)
-          refl (arbiter_taken (arbiter_stretch s block)) refl h;
+          refl (progress_taken (arbiter_stretch s block)) refl h;
       judge_block = λ b block buffer h.
-          kept (λ (a : JudgeStretch). a.flow) (λ a. a.tally) _ (as_judge (judge_stretch b block)) _ b _ buffer
+          kept (λ (a : Progress Tally). a.flow) (λ a. a.kept) _ (progress_of (judge_stretch b block)) _ b _ buffer
           (ltb (length buffer) (judge_room block)) (tally_formed b)
-          refl (judge_taken (judge_stretch b block)) refl h;
+          refl (progress_taken (judge_stretch b block)) refl h;
     }

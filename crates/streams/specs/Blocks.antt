@@ -6,6 +6,7 @@
 --   ByLines w turn   == a turn looks at no more than the first w bytes of its input, goes on only after them, and stops where nothing is left
 --   in_blocks turn s blocks last == what is written block by block; the last one ends the input, and may be cut
 --   tally_formed b   == what the judging program keeps is well formed
+--   progress_of, progress_in == a stretch as a call answers it: where it was taken, and where it may be refused
 --   flow_answer f    == the number that a call answers which takes one block: 0, or that of its refusal
 --   arbiter_block_of, arbiter_block_left, judge_block_of, judge_block_left == the answers of the calls that take one block, and the buffer afterwards
 use Rattle.std.specs.Prelude.{ℕ, ◌+◌, ◌*◌, ◌/◌, ◌≤◌, ◌<◌, ◌≡◌, Bool, ◌&&◌, cond, List, [], ◌∷◌, ◌++◌, ltb, leb, length, drop}
@@ -17,9 +18,8 @@ use Rattle.rulebook.specs.Rules.{rules}
 use Rattle.rulebook.specs.State.{well_formed as judge_formed}
 use Rattle.streams.specs.declared.Flow.{Flow}
 use Rattle.streams.specs.declared.Flow.TheVariants.{GoesOn, Stopped, Short, Unformed}
-use Rattle.streams.specs.declared.ArbiterStretch.{ArbiterStretch}
+use Rattle.streams.specs.declared.Progress.{Progress}
 use Rattle.streams.specs.declared.Tally.{Tally}
-use Rattle.streams.specs.declared.JudgeStretch.{JudgeStretch}
 use Rattle.streams.specs.Streams.{Turn, goes, stops, written, Stretch, on, done, stretch, then}
 use Rattle.streams.specs.Arbiter.{arbiter_turn}
 use Rattle.streams.specs.Judging.{judge_turn}
@@ -93,23 +93,26 @@ flow_answer Short = number_of refusal.Short
 -- 10
 flow_answer Unformed = number_of refusal.State
 
+-- a stretch as a call answers it
+abbrev pub progress_of : {S : Type 0} → Stretch S → Progress S
+progress_of (on bytes s) = record { written = length bytes; flow = GoesOn; kept = s }
+progress_of (done bytes s) = record { written = length bytes; flow = Stopped; kept = s }
+
+-- the answer of a call that needs some room, for what was kept, which must be well formed
+abbrev pub progress_in : {S : Type 0} → ℕ → ℕ → Bool → S → Stretch S → Progress S
+progress_in room needed formed s t =
+    cond (ltb room needed) (record { written = 0; flow = Short; kept = s })
+    (cond formed (progress_of t) (record { written = 0; flow = Unformed; kept = s }))
+
 -- a trace line has 31 bytes, and no refusal line is longer
 abbrev pub arbiter_room : List ℕ → ℕ
 arbiter_room block = room_for 16 31 block
 
-abbrev pub as_arbiter : Stretch State → ArbiterStretch
-as_arbiter (on bytes s) = record { written = length bytes; flow = GoesOn; state = s }
-as_arbiter (done bytes s) = record { written = length bytes; flow = Stopped; state = s }
-
 abbrev pub arbiter_stretch : State → List ℕ → Stretch State
 arbiter_stretch s block = stretch arbiter_turn (length block) s block
 
-unfoldable pub arbiter_block_of : State → List ℕ → ℕ → ArbiterStretch
-arbiter_block_of s block room =
-    cond (ltb room (arbiter_room block)) (record { written = 0; flow = Short; state = s })
-    (cond (well_formed s)
-    (as_arbiter (arbiter_stretch s block))
-    (record { written = 0; flow = Unformed; state = s }))
+unfoldable pub arbiter_block_of : State → List ℕ → ℕ → Progress State
+arbiter_block_of s block room = progress_in room (arbiter_room block) (well_formed s) s (arbiter_stretch s block)
 
 unfoldable pub arbiter_block_left : State → List ℕ → List ℕ → List ℕ
 arbiter_block_left s block buffer = left_by (arbiter_room block) (well_formed s) (arbiter_stretch s block) buffer
@@ -118,17 +121,11 @@ arbiter_block_left s block buffer = left_by (arbiter_room block) (well_formed s)
 abbrev pub judge_room : List ℕ → ℕ
 judge_room block = room_for 31 315 block
 
-abbrev pub as_judge : Stretch Tally → JudgeStretch
-as_judge (on bytes b) = record { written = length bytes; flow = GoesOn; tally = b }
-as_judge (done bytes b) = record { written = length bytes; flow = Stopped; tally = b }
-
 abbrev pub judge_stretch : Tally → List ℕ → Stretch Tally
 judge_stretch b block = stretch judge_turn (length block) b block
 
-unfoldable pub judge_block_of : Tally → List ℕ → ℕ → JudgeStretch
-judge_block_of b block room =
-    cond (ltb room (judge_room block)) (record { written = 0; flow = Short; tally = b })
-    (cond (tally_formed b) (as_judge (judge_stretch b block)) (record { written = 0; flow = Unformed; tally = b }))
+unfoldable pub judge_block_of : Tally → List ℕ → ℕ → Progress Tally
+judge_block_of b block room = progress_in room (judge_room block) (tally_formed b) b (judge_stretch b block)
 
 unfoldable pub judge_block_left : Tally → List ℕ → List ℕ → List ℕ
 judge_block_left b block buffer = left_by (judge_room block) (tally_formed b) (judge_stretch b block) buffer

@@ -19,11 +19,11 @@ has_stopped (done bytes s) = true
 -- A block that is used up has counted its lines, and no more than 1,000,000 in all.
 pub record BlocksAreCounted : Type 0 where
   pub arbiter_block : (s : State) (block : List ℕ) (room : ℕ) → (arbiter_block_of s block room).flow ≡ GoesOn
-      → ((arbiter_block_of s block room).state.count * width stimulus_fields ≡ s.count * width stimulus_fields + length block)
-      × ((arbiter_block_of s block room).state.count ≤ most_cycles)
+      → ((arbiter_block_of s block room).kept.count * width stimulus_fields ≡ s.count * width stimulus_fields + length block)
+      × ((arbiter_block_of s block room).kept.count ≤ most_cycles)
   pub judge_block : (b : Tally) (block : List ℕ) (room : ℕ) → (judge_block_of b block room).flow ≡ GoesOn
-      → ((judge_block_of b block room).tally.judge.count * width trace_fields ≡ b.judge.count * width trace_fields + length block)
-      × ((judge_block_of b block room).tally.judge.count ≤ most_cycles)
+      → ((judge_block_of b block room).kept.judge.count * width trace_fields ≡ b.judge.count * width trace_fields + length block)
+      × ((judge_block_of b block room).kept.judge.count ≤ most_cycles)
 
 -- "At most 1,000,000 cycles a run": a stretch over more lines has stopped, from whatever state it began.
 pub record MoreLinesStop : Type 0 where

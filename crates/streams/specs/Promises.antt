@@ -29,6 +29,6 @@ JudgeInBlocks =
 -- "Every refusal returns its number with the state .. as given; no lent byte changes."
 pub record RefusedBlocksKept : Type 0 where
   pub arbiter_block : (s : State) (block buffer : List ℕ) → (flow_answer (arbiter_block_of s block (length buffer)).flow ≡ 0 → ⊥)
-      → ((arbiter_block_of s block (length buffer)).state ≡ s) × (arbiter_block_left s block buffer ≡ buffer)
+      → ((arbiter_block_of s block (length buffer)).kept ≡ s) × (arbiter_block_left s block buffer ≡ buffer)
   pub judge_block : (b : Tally) (block buffer : List ℕ) → (flow_answer (judge_block_of b block (length buffer)).flow ≡ 0 → ⊥)
-      → ((judge_block_of b block (length buffer)).tally ≡ b) × (judge_block_left b block buffer ≡ buffer)
+      → ((judge_block_of b block (length buffer)).kept ≡ b) × (judge_block_left b block buffer ≡ buffer)

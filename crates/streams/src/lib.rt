@@ -2,7 +2,6 @@
 #![tactic(auto)]
 
 use rulebook::Judge;
-use rules::State;
 
 // How a block ended: all of it was used and more may come; or the program stopped. Nothing was done where the lent buffer
 // is too short (9), or where what was kept is not well formed (10).
@@ -14,12 +13,12 @@ pub enum Flow {
     Unformed,
 }
 
-// The arbiter after a block: how many bytes it wrote, how the block ended, and its state.
+// A program after a header or a block: how many bytes it wrote, how that ended, and what it keeps.
 #[derive(Clone, Copy)]
-pub struct ArbiterStretch {
+pub struct Progress<S> {
     pub written: usize,
     pub flow: Flow,
-    pub state: State,
+    pub kept: S,
 }
 
 // What the judging program keeps: the judge, and the breaches so far.
@@ -27,12 +26,4 @@ pub struct ArbiterStretch {
 pub struct Tally {
     pub judge: Judge,
     pub breaches: u32,
-}
-
-// The judging program after a block.
-#[derive(Clone, Copy)]
-pub struct JudgeStretch {
-    pub written: usize,
-    pub flow: Flow,
-    pub tally: Tally,
 }

@@ -19,17 +19,18 @@ use Rattle.formats.specs.declared.Word.TheVariants.{Trace}
 use Rattle.formats.specs.Results.{HeaderRead}
 use Rattle.formats.specs.Headers.{read_header_of}
 use Rattle.formats.proofs.Headers.{header_writes}
+use Rattle.streams.specs.Blocks.{progress_of}
 use Rattle.streams.specs.Streams.{Stretch, on, done}
 use Rattle.streams.specs.Stays.{kept}
 use Rattle.waves.specs.Header.{dump_header}
 use Rattle.conversions.specs.declared.Position.{Position}
-use Rattle.conversions.specs.declared.Converted.{Converted}
+use Rattle.streams.specs.declared.Progress.{Progress}
 use Rattle.conversions.specs.Positions.{position_formed}
 use Rattle.conversions.specs.Dumping.{dump_turn}
-use Rattle.conversions.specs.Blocks.{as_converted, dump_room, dump_stretch, dump_block_of}
+use Rattle.conversions.specs.Blocks.{dump_room, dump_stretch, dump_block_of}
 use Rattle.conversions.specs.Heads.{dump_head_room, dump_headed, dump_head_of}
 use Rattle.conversions.proofs.Positions.{facts_of}
-use Rattle.conversions.proofs.Answers.{converted_kept}
+use Rattle.streams.proofs.Taken.{progress_kept}
 use Rattle.conversions.proofs.DumpNear.{dump_by_lines}
 use Rattle.conversions.proofs.DumpCounted.{dump_counts}
 use Rattle.conversions.proofs.DumpPromises.{dump_stays_formed}
@@ -42,24 +43,24 @@ use Rattle.console.proofs.Ends.{came}
 use Rattle.console.proofs.Onwards as onwards
 use Rattle.trace2vcd.specs.Answers.{no_breach, begun_with, Answered}
 
-flow_is : (x : Stretch Position) → goes_on_after (as_converted x).flow ≡ is_on no_breach x
+flow_is : (x : Stretch Position) → goes_on_after (progress_of x).flow ≡ is_on no_breach x
 flow_is (on bytes p) = refl
 flow_is (done bytes p) = refl
 
 -- what a stretch answers
-of_stretch : (x : Stretch Position) (a : Converted) (goes : Bool) (e : Ending) (t : Position) → a ≡ as_converted x → Answered a goes e t
+of_stretch : (x : Stretch Position) (a : Progress Position) (goes : Bool) (e : Ending) (t : Position) → a ≡ progress_of x → Answered a goes e t
     → Came no_breach x goes e × (t ≡ kept x)
 of_stretch x a goes e t is r = (
   came no_breach x a.flow 0 r.given (goes_on_after a.flow) goes e (rw is (flow_is x)) refl refl r.flow r.ending,
-  r.position ∙ rw is (converted_kept x),
+  r.position ∙ rw is (progress_kept x),
 )
 
 module _ (p : Position) (block : List ℕ) where
-  block_taken : (room : ℕ) → (position_formed p ≡ true) × (dump_room block ≤ room) → dump_block_of p block room ≡ as_converted (dump_stretch p block)
+  block_taken : (room : ℕ) → (position_formed p ≡ true) × (dump_room block ≤ room) → dump_block_of p block room ≡ progress_of (dump_stretch p block)
   unfolding dump_block_of
   block_taken room h = let l = le-ltb room (dump_room block) h.1 in rw (l, h.0)
 
-  pub answered : (room : ℕ) (a : Converted) (goes : Bool) (e : Ending) (t : Position) → (position_formed p ≡ true) × (dump_room block ≤ room)
+  pub answered : (room : ℕ) (a : Progress Position) (goes : Bool) (e : Ending) (t : Position) → (position_formed p ≡ true) × (dump_room block ≤ room)
       → a ≡ dump_block_of p block room → Answered a goes e t → Came no_breach (dump_stretch p block) goes e × (t ≡ kept (dump_stretch p block))
   answered room a goes e t h is r = of_stretch (dump_stretch p block) a goes e t (is ∙ block_taken room h) r
 
@@ -80,14 +81,14 @@ pub lent : Lent 31 104 31744 106600 × (dump_head_room ≤ 106600)
 lent = (record { line = omega arith; room = omega arith }, omega arith)
 
 -- the header
-module _ (head : List ℕ) (room : ℕ) (a : Converted) (is : a ≡ dump_head_of head room) (wide : dump_head_room ≤ room) where
-  taken : a ≡ as_converted (dump_headed (read_header_of Trace head))
+module _ (head : List ℕ) (room : ℕ) (a : Progress Position) (is : a ≡ dump_head_of head room) (wide : dump_head_room ≤ room) where
+  taken : a ≡ progress_of (dump_headed (read_header_of Trace head))
   unfolding dump_head_of
   taken = is ∙ rw (le-ltb room dump_head_room wide)
 
   module _ (e : Ending) (goes : Bool) (t : Position) (r : Answered a goes e t) where
     sorted : (h : HeaderRead) → read_header_of Trace head ≡ h → Came no_breach (dump_headed h) goes e × (t ≡ kept (dump_headed h))
-    sorted h q = of_stretch (dump_headed h) a goes e t (taken ∙ ap (λ (h : HeaderRead). as_converted (dump_headed h)) q) r
+    sorted h q = of_stretch (dump_headed h) a goes e t (taken ∙ ap (λ (h : HeaderRead). progress_of (dump_headed h)) q) r
 
     -- where a header is refused the program does not go on, and where it is accepted only a failed write stops it
     stops : (given : Bool) {P : Type 0} → given && false ≡ true → P

@@ -8,7 +8,7 @@ use Rattle.console.specs.declared.Ending.{Ending}
 use Rattle.console.specs.Going.{goes_on_after}
 use Rattle.console.specs.Ends.{ending_of}
 use Rattle.conversions.specs.declared.Position.{Position}
-use Rattle.conversions.specs.declared.Converted.{Converted}
+use Rattle.streams.specs.declared.Progress.{Progress}
 use Rattle.conversions.specs.Positions.{start_at}
 use Rattle.conversions.specs.Dumping.{first_line}
 
@@ -18,8 +18,8 @@ no_breach p = 0
 abbrev pub begun_with : ℕ → Position
 begun_with n = start_at n first_line
 
-pub record Answered (a : Converted) (on : Bool) (e : Ending) (p : Position) : Type 0 where
+pub record Answered (a : Progress Position) (on : Bool) (e : Ending) (p : Position) : Type 0 where
   pub given : Bool
   pub flow : on ≡ (given && goes_on_after a.flow)
   pub ending : e ≡ ending_of given a.flow 0
-  pub position : p ≡ a.position
+  pub position : p ≡ a.kept

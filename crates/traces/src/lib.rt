@@ -6,13 +6,13 @@ ghost use Rattle.rules.specs.Codes.{most_cycles};
 ghost use Rattle.rules.specs.Valid.{cycle_check};
 ghost use Rattle.rulebook.specs.Step.{judge_of};
 ghost use Rattle.streams.specs.Judging.{judged_to, judge_turn};
-ghost use Rattle.streams.specs.Blocks.{judge_room, as_judge, judge_stretch, bytes_of};
+ghost use Rattle.streams.specs.Blocks.{judge_room, progress_of, judge_stretch, bytes_of};
 ghost use Rattle.streams.specs.Turns.{Lined, over};
 ghost use Rattle.streams.specs.Breaches.{Formed};
 ghost use Rattle.traces.specs.Stops.{NotTaken};
 
 use rules::{Cycle, Refusal};
-use streams::{Flow, JudgeStretch, Tally};
+use streams::{Flow, Progress, Tally};
 
 // What a cycle that is taken comes to: the bytes written, and what is kept after it.
 #[derive(Clone, Copy)]
@@ -55,9 +55,9 @@ fn stop(b: Tally, rest: &[u8], out: &mut [u8]) -> usize
 }
 
 // A block, line after line.
-pub fn run(b: Tally, block: &[u8], out: &mut [u8]) -> JudgeStretch
+pub fn run(b: Tally, block: &[u8], out: &mut [u8]) -> Progress<Tally>
     requires { Formed b × (judge_room block.now ≤ length out.old) }
-    ensures { (result ≡ as_judge (judge_stretch b block.now)) × (out.new ≡ over (bytes_of (judge_stretch b block.now)) out.old) }
+    ensures { (result ≡ progress_of (judge_stretch b block.now)) × (out.new ≡ over (bytes_of (judge_stretch b block.now)) out.old) }
 {
     let digits = glances::digits();
     let mut tally = b;
@@ -79,15 +79,15 @@ pub fn run(b: Tally, block: &[u8], out: &mut [u8]) -> JudgeStretch
     }
     if at < block.len() {
         w += stop(tally, &block[at..], &mut out[w..]);
-        return JudgeStretch {
+        return Progress {
             written: w,
             flow: Flow::Stopped,
-            tally,
+            kept: tally,
         };
     }
-    JudgeStretch {
+    Progress {
         written: w,
         flow: Flow::GoesOn,
-        tally,
+        kept: tally,
     }
 }

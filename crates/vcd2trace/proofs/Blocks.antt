@@ -23,18 +23,19 @@ use Rattle.rules.proofs.Choice.{and_left, and_right}
 use Rattle.formats.specs.declared.Word.TheVariants.{Trace}
 use Rattle.formats.specs.Results.{HeaderRead}
 use Rattle.formats.specs.Headers.{header}
+use Rattle.streams.specs.Blocks.{progress_of}
 use Rattle.streams.specs.Streams.{Stretch, on, done}
 use Rattle.streams.specs.Stays.{kept}
 use Rattle.streams.proofs.Counted.{used}
 use Rattle.waves.specs.Header.{read_dump_header_of}
 use Rattle.conversions.specs.declared.Position.{Position}
-use Rattle.conversions.specs.declared.Converted.{Converted}
+use Rattle.streams.specs.declared.Progress.{Progress}
 use Rattle.conversions.specs.Positions.{position_formed}
 use Rattle.conversions.specs.Undumping.{undump_turn}
-use Rattle.conversions.specs.Blocks.{as_converted, undump_room, undump_stretch, undump_block_of}
+use Rattle.conversions.specs.Blocks.{undump_room, undump_stretch, undump_block_of}
 use Rattle.conversions.specs.Heads.{undump_head_room, undump_headed, undump_head_of}
 use Rattle.conversions.proofs.Positions.{facts_of}
-use Rattle.conversions.proofs.Answers.{converted_kept}
+use Rattle.streams.proofs.Taken.{progress_kept}
 use Rattle.conversions.proofs.UndumpLines.{undump_stepping, undump_counts}
 use Rattle.conversions.proofs.UndumpHeads.{undump_head_good}
 use Rattle.conversions.proofs.UndumpPromises.{undump_stays_formed}
@@ -50,24 +51,24 @@ use Rattle.console.proofs.Ends.{came}
 use Rattle.console.proofs.Onwards as onwards
 use Rattle.vcd2trace.specs.Answers.{no_breach, begun_with, Answered, Held}
 
-flow_is : (x : Stretch Position) → goes_on_after (as_converted x).flow ≡ is_on no_breach x
+flow_is : (x : Stretch Position) → goes_on_after (progress_of x).flow ≡ is_on no_breach x
 flow_is (on bytes p) = refl
 flow_is (done bytes p) = refl
 
 -- what a stretch answers
-of_stretch : (x : Stretch Position) (a : Converted) (goes : Bool) (e : Ending) (t : Position) → a ≡ as_converted x → Answered a goes e t
+of_stretch : (x : Stretch Position) (a : Progress Position) (goes : Bool) (e : Ending) (t : Position) → a ≡ progress_of x → Answered a goes e t
     → Came no_breach x goes e × (t ≡ kept x)
 of_stretch x a goes e t is r = (
   came no_breach x a.flow 0 r.given (goes_on_after a.flow) goes e (rw is (flow_is x)) refl refl r.flow r.ending,
-  r.position ∙ rw is (converted_kept x),
+  r.position ∙ rw is (progress_kept x),
 )
 
 module _ (p : Position) (block : List ℕ) where
-  block_taken : (room : ℕ) → (position_formed p ≡ true) × (undump_room block ≤ room) → undump_block_of p block room ≡ as_converted (undump_stretch p block)
+  block_taken : (room : ℕ) → (position_formed p ≡ true) × (undump_room block ≤ room) → undump_block_of p block room ≡ progress_of (undump_stretch p block)
   unfolding undump_block_of
   block_taken room h = let l = le-ltb room (undump_room block) h.1 in rw (l, h.0)
 
-  pub answered : (room : ℕ) (a : Converted) (goes : Bool) (e : Ending) (t : Position) → (position_formed p ≡ true) × (undump_room block ≤ room)
+  pub answered : (room : ℕ) (a : Progress Position) (goes : Bool) (e : Ending) (t : Position) → (position_formed p ≡ true) × (undump_room block ≤ room)
       → a ≡ undump_block_of p block room → Answered a goes e t → Came no_breach (undump_stretch p block) goes e × (t ≡ kept (undump_stretch p block))
   answered room a goes e t h is r = of_stretch (undump_stretch p block) a goes e t (is ∙ block_taken room h) r
 
@@ -114,14 +115,14 @@ formed_on p t k k' old new h h' below formed o =
     (f, few, omega (arith, all, size, size', o.some, u.at_most, u.counted, u.room (facts_of p formed).room))
 
 -- the header
-module _ (head : List ℕ) (block room : ℕ) (a : Converted) (is : a ≡ undump_head_of head room) (wide : Held block room) where
-  taken : a ≡ as_converted (undump_headed (read_dump_header_of head))
+module _ (head : List ℕ) (block room : ℕ) (a : Progress Position) (is : a ≡ undump_head_of head room) (wide : Held block room) where
+  taken : a ≡ progress_of (undump_headed (read_dump_header_of head))
   unfolding undump_head_of
   taken = is ∙ rw (le-ltb room undump_head_room (omega (arith, wide.lent.room)))
 
   module _ (e : Ending) (goes : Bool) (t : Position) (r : Answered a goes e t) where
     sorted : (h : HeaderRead) → read_dump_header_of head ≡ h → Came no_breach (undump_headed h) goes e × (t ≡ kept (undump_headed h))
-    sorted h q = of_stretch (undump_headed h) a goes e t (taken ∙ ap (λ (h : HeaderRead). as_converted (undump_headed h)) q) r
+    sorted h q = of_stretch (undump_headed h) a goes e t (taken ∙ ap (λ (h : HeaderRead). progress_of (undump_headed h)) q) r
 
     -- where a header is refused the program does not go on, and where it is accepted only a failed write stops it
     stops : (given : Bool) {P : Type 0} → given && false ≡ true → P

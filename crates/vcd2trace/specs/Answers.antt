@@ -9,7 +9,7 @@ use Rattle.console.specs.declared.Ending.{Ending}
 use Rattle.console.specs.Going.{goes_on_after, Lent}
 use Rattle.console.specs.Ends.{ending_of}
 use Rattle.conversions.specs.declared.Position.{Position}
-use Rattle.conversions.specs.declared.Converted.{Converted}
+use Rattle.streams.specs.declared.Progress.{Progress}
 use Rattle.conversions.specs.Positions.{start_at}
 use Rattle.conversions.specs.Undumping.{first_step}
 
@@ -19,11 +19,11 @@ no_breach p = 0
 abbrev pub begun_with : ℕ → Position
 begun_with n = start_at n first_step
 
-pub record Answered (a : Converted) (on : Bool) (e : Ending) (p : Position) : Type 0 where
+pub record Answered (a : Progress Position) (on : Bool) (e : Ending) (p : Position) : Type 0 where
   pub given : Bool
   pub flow : on ≡ (given && goes_on_after a.flow)
   pub ending : e ≡ ending_of given a.flow 0
-  pub position : p ≡ a.position
+  pub position : p ≡ a.kept
 
 -- a step has three bytes at least, and a trace line 31
 pub record Held (block out : ℕ) : Type 0 where

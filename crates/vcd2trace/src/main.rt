@@ -13,7 +13,8 @@ ghost use Rattle.console.specs.Ran.{Turned, Ran, Begins};
 ghost use Rattle.vcd2trace.specs.Answers.{no_breach, begun_with, Answered, Held};
 
 use console::{Ending, Fed, Output};
-use conversions::{Converted, Position};
+use conversions::Position;
+use streams::Progress;
 use std::io::{Read, Write};
 
 // After a read: whether the program goes on, how many bytes of a step are kept, how it ends if it does not go on, and where it stands.
@@ -26,7 +27,7 @@ struct After {
 }
 
 // Writes what a header or a block came to.
-fn give<W: Write>(output: &mut Output<W>, a: Converted, out: &[u8]) -> After
+fn give<W: Write>(output: &mut Output<W>, a: Progress<Position>, out: &[u8]) -> After
     ensures { Answered a result.on result.ending result.position }
 {
     let given = console::give(output, a.written, out);
@@ -35,7 +36,7 @@ fn give<W: Write>(output: &mut Output<W>, a: Converted, out: &[u8]) -> After
         on: given & goes,
         kept: 0,
         ending: console::ends_as(given, a.flow, 0),
-        position: a.position,
+        position: a.kept,
     }
 }
 
