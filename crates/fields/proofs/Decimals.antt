@@ -85,3 +85,15 @@ pub decimal_by_log : (v : ℕ) (r : Option ℕ) → IfNone r (v ≡ 0) → IfSom
     → (unwrap_or r 0 + 1 ≡ length (decimal v)) × (unwrap_or r 0 + 1 ≤ 10)
 decimal_by_log v None e low high h = (log_size v 0 (omega arith) (λ q. absurd (omega arith)) (omega arith), omega arith)
 decimal_by_log v (Some r) e low high h = (log_size v r h (λ q. low) (omega (arith, pow-suc 10 r)), omega arith)
+
+-- any number has at most as many digits as there is room for
+before_shorter : (k v : ℕ) (l : List ℕ) → length (decimal_before k v l) ≤ k + length l
+unfolding decimal_before
+before_shorter zero v l = omega arith
+before_shorter (suc k) v l =
+    order 10 v
+    (λ more. simp (before_more k v l more) (omega (arith, before_shorter k (v / 10) ((48 + v % 10) ∷ l))))
+    (λ last. simp (before_last k v l last) (omega arith))
+
+pub longest : (v : ℕ) → length (decimal v) ≤ 10
+longest v = before_shorter 10 v []
