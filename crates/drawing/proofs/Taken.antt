@@ -1,7 +1,7 @@
 -- One trace line, drawn or not.
 --
 --   line_drawn == a line that was read, in time, goes on with its step
---   untaken, left_untaken == where no line is drawn, by a glance, and at the end of the loop
+--   left_untaken == at the end of the loop no line is drawn
 --   stops_full == a good line after the last cycle is refusal 8
 use Rattle.std.specs.Prelude.{Ok, Some}
 use Prim.Native.Nat.{ℕ, ◌-◌, ◌<◌}
@@ -9,8 +9,8 @@ use mathlib.Core.Path.{◌≡◌, refl, sym, ◌∙◌}
 use mathlib.Core.Bool.{Bool, true, false, ◌&&◌}
 use mathlib.Core.List.{List}
 use native.Mathlib.Omega.{arith}
-use borrow.Author.Tests.{leb-false, ltb-false}
-use lib.Dec.{ltb, leb}
+use borrow.Author.Tests.{leb-false}
+use lib.Dec.{leb}
 use lib.ListN.{length, drop, length-drop}
 use Rattle.rules.specs.declared.Refusal.TheVariants.{Full}
 use Rattle.rules.specs.declared.Cycle.{Cycle}
@@ -21,7 +21,6 @@ use Rattle.formats.specs.Report.{refused_line}
 use Rattle.streams.specs.Turns.{Put, Lined}
 use Rattle.streams.proofs.Near.{trace_line_lem}
 use Rattle.waves.specs.Steps.{dump_step}
-use Rattle.glances.specs.Sees.{SeesTrace}
 use Rattle.conversions.specs.declared.Position.{Position}
 use Rattle.conversions.specs.Positions.{after}
 use Rattle.conversions.specs.Dumping.{dump_turn}
@@ -38,11 +37,6 @@ module _ (p : Position) where
   pub stops_full : (rest buffer out : List ℕ) (a : TraceRead) (c : Cycle) (n k : ℕ) → NotTaken p rest → a ≡ read_trace_of p.n rest 0 → a ≡ Ok (Some (c, n))
       → Put (refused_line p.line Full) buffer k out → Lined p (dump_turn p rest) buffer k false p out
   stops_full rest buffer out a c n k stop e g put = drawn_full p rest a e buffer k out c n g (stop.full c n (sym e ∙ g)) put
-
-  -- one that a glance does not find good, or after the last cycle; and no whole line
-  pub untaken : (rest : List ℕ) (good : Bool) (c : Cycle) → SeesTrace p.n rest good c → (good && ltb p.count 1000000) ≡ false → NotTaken p rest
-  untaken rest true c s e = record { full = λ d k q. ltb-false p.count 1000000 e }
-  untaken rest false c s e = record { full = λ d k q. absurd (s.none refl d k q) }
 
   short_untaken : (rest : List ℕ) → length rest < 31 → NotTaken p rest
   short_untaken rest h = record { full = λ c k q. absurd (omega (arith, (trace_line_lem p.n rest c k q).1)) }

@@ -10,6 +10,7 @@ ghost use Rattle.conversions.specs.Blocks.{dump_room, dump_stretch};
 ghost use Rattle.drawing.specs.Stops.{NotTaken};
 
 use conversions::Position;
+use glances::DigitTable;
 use rules::{Cycle, Refusal};
 use streams::{Flow, Progress};
 
@@ -53,21 +54,21 @@ pub fn run(p: Position, block: &[u8], out: &mut [u8]) -> Progress<Position>
     requires { (position_formed p ≡ true) × (dump_room block.now ≤ length out.old) }
     ensures { (result ≡ progress_of (dump_stretch p block.now)) × (out.new ≡ over (bytes_of (dump_stretch p block.now)) out.old) }
 {
-    let digits = glances::digits();
+    let digits = DigitTable::new();
     let mut position = p;
     let mut at: usize = 0;
     let mut w: usize = 0;
     let mut on = true;
     while on & (31 <= block.len() - at) {
-        let seen = glances::see_trace(&digits, position.n, &block[at..]);
-        on = seen.good & (position.count < 1000000);
-        if on {
-            let c = seen.cycle;
-            let gone = go(position, c, &mut out[w..]);
-            let next = gone.position;
-            position = next;
-            w += gone.written;
-            at += 31;
+        match digits.see_trace(position.n, &block[at..]) {
+            Some(c) if position.count < 1000000 => {
+                let gone = go(position, c, &mut out[w..]);
+                let next = gone.position;
+                position = next;
+                w += gone.written;
+                at += 31;
+            }
+            _ => on = false,
         }
     }
     if at < block.len() {

@@ -1,13 +1,12 @@
 -- Hex digits: what the arithmetic of the readers and writers comes to.
 --
 --   or_none none d      == the digit d, and none where d is no digit
---   of_wrapped          == a byte's digit, from two differences that wrap round
+--   decimal_read, letter_read, none_read == a byte's digit, by the three cases
 --   joined_by_sum       == one digit more: a sum and one test say what two tests say
 --   number_one          == a column of one digit
 --   mask_good, mask_bad == a column of four, by their sum
 --   small_char          == the character of a number below ten
-use Rattle.std.proofs.Common.{◌≡◌, ℕ, ◌+◌, ◌-◌, ◌*◌, ◌%◌, ◌^◌, ◌<◌, ◌≤◌, cond, ◌&&◌, ltb, leb, List, get_or, sym, refl, ◌∙◌, add-zero, zero-add, arith, le-ltb, lt-ltb, le-leb}
-use borrow.Author.Tests.{lt-leb}
+use Rattle.std.proofs.Common.{◌≡◌, ℕ, ◌+◌, ◌-◌, ◌*◌, ◌%◌, ◌<◌, ◌≤◌, cond, ltb, List, get_or, sym, refl, ◌∙◌, add-zero, zero-add, arith, le-ltb, lt-ltb}
 use Rattle.rules.proofs.Choice.{order}
 use Rattle.formats.specs.Digits.{hex_char, hex_digit, joined, number_at}
 
@@ -21,43 +20,28 @@ Read b none r = (r ≡ or_none none (hex_digit b)) × (r ≤ none + 15)
 found : (b none r : ℕ) → hex_digit b ≡ r → r < 16 → Read b none r
 found b none r e h = (simp (e, lt-ltb r 16 h), omega arith)
 
-missed : (b none : ℕ) → hex_digit b ≡ 16 → Read b none none
-missed b none e = (simp e, omega arith)
-
-decimal_digit : (b : ℕ) → 48 ≤ b → b < 58 → hex_digit b ≡ b - 48
+pub decimal_read : (b none : ℕ) → 48 ≤ b → b ≤ 57 → Read b none (b - 48)
 unfolding hex_digit
-decimal_digit b l h = simp (le-ltb b 48 l, lt-ltb b 58 h)
+decimal_read b none l h = found b none (b - 48) (simp (le-ltb b 48 l, lt-ltb b 58 (omega arith))) (omega arith)
 
-letter_digit : (b : ℕ) → 97 ≤ b → b < 103 → hex_digit b ≡ b - 87
+pub letter_read : (b none : ℕ) → 97 ≤ b → b ≤ 102 → Read b none (b - 87)
 unfolding hex_digit
-letter_digit b l h =
-    simp (le-ltb b 48 (omega arith), le-ltb b 58 (omega arith), le-ltb b 97 l, lt-ltb b 103 h)
+letter_read b none l h =
+    found b none (b - 87)
+    (simp (le-ltb b 48 (omega arith), le-ltb b 58 (omega arith), le-ltb b 97 l, lt-ltb b 103 (omega arith))) (omega arith)
 
-no_digit : (b : ℕ) → (48 ≤ b → b < 58 → ⊥) → (97 ≤ b → b < 103 → ⊥) → hex_digit b ≡ 16
+pub none_read : (b none : ℕ) → (48 ≤ b → b ≤ 57 → ⊥) → (97 ≤ b → b ≤ 102 → ⊥) → Read b none none
 unfolding hex_digit
-no_digit b f g =
+none_read b none f g =
+    let e : hex_digit b ≡ 16 =
     order 48 b
-    (λ l48. let h58 : 58 ≤ b = order 58 b (λ h. h) (λ h. absurd (f l48 h)) in
+    (λ l48. let h58 : 58 ≤ b = order 58 b (λ h. h) (λ h. absurd (f l48 (omega arith))) in
     order 97 b
-    (λ l97. let h103 : 103 ≤ b = order 103 b (λ h. h) (λ h. absurd (g l97 h)) in
+    (λ l97. let h103 : 103 ≤ b = order 103 b (λ h. h) (λ h. absurd (g l97 (omega arith))) in
     simp (le-ltb b 48 l48, le-ltb b 58 h58, le-ltb b 97 l97, le-ltb b 103 h103))
     (λ u97. simp (le-ltb b 48 l48, le-ltb b 58 h58, lt-ltb b 97 u97)))
-    (λ u48. simp (lt-ltb b 48 u48))
-
--- low is b - 48 and high is b - 87, each of them wrapped round where b is smaller
-pub of_wrapped : (b low high letter r none : ℕ) → b < 256 → low < 2 ^ 32 → high < 2 ^ 32
-    → (low + 48) % 2 ^ 32 ≡ b → (high + 87) % 2 ^ 32 ≡ b
-    → letter ≡ cond (leb 10 high && ltb high 16) high none → r ≡ cond (ltb low 10) low letter → Read b none r
-of_wrapped b low high letter r none hb hl hh el eh et er =
-    order 10 low
-    (λ above.
-    let there : r ≡ letter = er ∙ rw (le-ltb low 10 above) in
-    order 10 high
-    (λ ten. order 16 high
-    (λ beyond. rw (there, et, le-leb 10 high ten, le-ltb high 16 beyond) (missed b none (no_digit b (λ l h. omega arith) (λ l h. omega arith))))
-    (λ within. rw (there, et, le-leb 10 high ten, lt-ltb high 16 within) (found b none high (letter_digit b (omega arith) (omega arith) ∙ omega arith) within)))
-    (λ short. rw (there, et, lt-leb 10 high short) (missed b none (no_digit b (λ l h. omega arith) (λ l h. omega arith)))))
-    (λ below. rw (er, lt-ltb low 10 below) (found b none low (decimal_digit b (omega arith) (omega arith) ∙ omega arith) (omega arith)))
+    (λ u48. simp (lt-ltb b 48 u48)) in
+    (simp e, omega arith)
 
 -- high is w, or top where w is too large; low is a digit, or too large for the sum
 pub joined_by_sum : (top high low w none : ℕ) → top * 16 ≤ none → high ≡ cond (ltb w top) w top

@@ -34,11 +34,11 @@ pub fn for_masters(n: u32, k: Result<(), Refusal>) -> Result<(), Refusal>
 pub fn digit_or(b: u8, none: u32) -> u32
     ensures { (result ≡ (if nat_lt (hex_digit b) 16 then hex_digit b else none)) × (result ≤ none + 15) }
 {
-    let c = b as u32;
-    let low = std::num::wrapping_sub_u32(c, 48);
-    let high = std::num::wrapping_sub_u32(c, 87);
-    let letter = signals::pick_number((10 <= high) & (high < 16), high, none);
-    signals::pick_number(low < 10, low, letter)
+    match b {
+        b'0'..=b'9' => (b - b'0') as u32,
+        b'a'..=b'f' => (b - 87) as u32,
+        _ => none,
+    }
 }
 
 // A column of one digit, and 16 where it is none.

@@ -8,19 +8,17 @@ ghost use Rattle.formats.specs.Headers.{starts_with};
 pub fn byte_at(s: &[u8], i: usize) -> u8
     ensures { result ≡ slice_index s.now i }
 {
-    if i < s.len() { s[i] } else { 0 }
+    s.get(i).copied().unwrap_or(0)
 }
 
 // Whether s begins with the word w.
+// Stays: the definition has 0 past the end of s, and the slice's own starts_with has no byte there: they differ at a word that ends in NUL.
 pub fn starts_with(s: &[u8], w: &[u8]) -> bool
     ensures { result ≡ starts_with s.now w.now }
 {
     let mut same = true;
-    let mut i = 0;
-    while i < w.len() {
-        let b = byte_at(s, i);
-        same = same & (b == w[i]);
-        i += 1;
+    for (i, b) in w.iter().enumerate() {
+        same &= byte_at(s, i) == *b;
     }
     same
 }
@@ -30,24 +28,14 @@ pub fn put_word(w: &[u8], buf: &mut [u8])
     requires { length w.now ≤ length buf.old }
     ensures { buf.new ≡ sets buf.old 0 w.now }
 {
-    let mut i = 0;
-    while i < w.len() {
-        buf[i] = w[i];
-        i += 1;
-    }
+    buf[..w.len()].copy_from_slice(w);
 }
 
 // The digits of a number in decimal.
 pub fn decimal_length(v: u32) -> usize
     ensures { (result ≡ length (decimal v)) × (result ≤ 10) }
 {
-    let mut rest: u32 = v;
-    let mut n: usize = 1;
-    while 10 <= rest {
-        rest = rest / 10;
-        n += 1;
-    }
-    n
+    v.checked_ilog10().unwrap_or(0) as usize + 1
 }
 
 // Writes a number in decimal and the byte after it, its last digit first; answers the position after them.
@@ -56,14 +44,11 @@ pub fn put_decimal(buf: &mut [u8], at: usize, v: u32, after: u8) -> usize
     ensures { (result ≡ at + length (decimal v) + 1) × (buf.new ≡ sets buf.old at (decimal v ++ (after ∷ []))) }
 {
     let end = at + decimal_length(v);
-    let mut rest: u32 = v;
-    let mut i = end - 1;
-    while 10 <= rest {
+    let mut rest = v;
+    for i in (at..end).rev() {
         buf[i] = 48 + (rest % 10) as u8;
-        rest = rest / 10;
-        i -= 1;
+        rest /= 10;
     }
-    buf[i] = 48 + rest as u8;
     buf[end] = after;
     end + 1
 }

@@ -1,9 +1,9 @@
 -- The tests of a glance all give 0 exactly where the line is read.
 --
 --   masters_below == n is 16 at most
---   stimulus_seen == of a stimulus line
---   trace_seen    == of a trace line
-use Rattle.std.proofs.Common.{◌≡◌, ℕ, ◌/◌, ◌^◌, ◌<◌, ◌≤◌, Bool, true, ◌&&◌, eqb, ltb, ◌↔◌, List, length, get_or, sym, refl, ap, ◌∙◌, arith, ltb-true, lt-ltb, eq-eqb, eqb-true, Ok, Some}
+--   stimulus_good_seen, stimulus_bad_seen == of a stimulus line
+--   trace_good_seen, trace_bad_seen       == of a trace line
+use Rattle.std.proofs.Common.{◌≡◌, ℕ, ◌/◌, ◌^◌, ◌<◌, ◌≤◌, Bool, true, false, ◌&&◌, eqb, ltb, ◌↔◌, List, length, get_or, sym, refl, ap, ◌∙◌, arith, ltb-true, lt-ltb, eq-eqb, eqb-true, Ok, Some, None}
 use lib.Bits.{bit_or, or_lt}
 use Rattle.rules.specs.declared.Inputs.{Inputs}
 use Rattle.rules.specs.declared.Outputs.{Outputs}
@@ -27,6 +27,13 @@ use Rattle.glances.proofs.Begins.{line_reads, line_read}
 
 pub masters_below : (n : ℕ) → masters_ok n ≡ true → n ≤ 16
 masters_below n ok = (ok_range n ok).many
+
+module _ {A : Type 0} (a : A) where
+  some_none : Some a ≡ None → ⊥
+  some_none q = let z : ◌≡◌ {A = ℕ} 0 1 = cc in omega arith
+
+  none_some : None ≡ Some a → ⊥
+  none_some q = let z : ◌≡◌ {A = ℕ} 0 1 = cc in omega arith
 
 abbrev inputs_of : ℕ → ℕ → Codes → Inputs
 inputs_of hbusreq hlock c =
@@ -179,8 +186,11 @@ module _ (n : ℕ) (s : List ℕ) (ok : masters_ok n ≡ true) where
         let absent : bit_or hbusreq hlock / 2 ^ n ≡ 0 = without n (bit_or hbusreq hlock) (or_lt n hbusreq hlock g.asked g.locked) in
         eq-eqb _ _ (or_zero (or_zero g.none absent) (tabbed.1 p.0))
 
-    pub stimulus_seen : SeesStimulus n s stimulus_good (inputs_of hbusreq hlock c)
-    stimulus_seen = record { line = stimulus_line_lem; none = λ e y k r. differ stimulus_good (stimulus_sure y k r) e }
+    pub stimulus_good_seen : stimulus_good ≡ true → SeesStimulus n s (Some (inputs_of hbusreq hlock c))
+    stimulus_good_seen g = record { line = λ x q. let e : inputs_of hbusreq hlock c ≡ x = cc in rw (← e) (stimulus_line_lem g); none = λ q. absurd (some_none _ q) }
+
+    pub stimulus_bad_seen : stimulus_good ≡ false → SeesStimulus n s None
+    stimulus_bad_seen e = record { line = λ x q. absurd (none_some x q); none = λ q y k r. differ stimulus_good (stimulus_sure y k r) e }
 
   module _ (hbusreq hlock : ℕ) (c : Codes) (requests : MaskSeen s 0 hbusreq) (locks : MaskSeen s 5 hlock) (codes : CodesSeen s tab c)
       (hgrant hmaster : ℕ) (f : Flags) (grants : MaskSeen s 16 hgrant) (owner : hmaster ≡ digit_of (get_or s 21 0)) (flags : FlagsSeen s f)
@@ -260,5 +270,8 @@ module _ (n : ℕ) (s : List ℕ) (ok : masters_ok n ≡ true) where
         (or_zero (or_zero (or_zero g.none h.none) absent) (or_zero (or_zero (tab4.1 p.0) (tab20.1 q.0)) (tab22.1 q.1.0))))
         (lt-ltb hmaster n h.owned)
 
-    pub trace_seen : SeesTrace n s trace_good cycle
-    trace_seen = record { line = trace_line_lem; none = λ e d k r. differ trace_good (trace_sure d k r) e }
+    pub trace_good_seen : trace_good ≡ true → SeesTrace n s (Some cycle)
+    trace_good_seen g = record { line = λ d q. let e : cycle ≡ d = cc in rw (← e) (trace_line_lem g); none = λ q. absurd (some_none _ q) }
+
+    pub trace_bad_seen : trace_good ≡ false → SeesTrace n s None
+    trace_bad_seen e = record { line = λ x q. absurd (none_some x q); none = λ q d k r. differ trace_good (trace_sure d k r) e }

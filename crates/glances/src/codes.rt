@@ -9,7 +9,7 @@ ghost use Rattle.glances.specs.Glances.{unbuilt, CodesSeen, codes_bytes, FlagsSe
 pub fn apart(b: u8) -> u64
     ensures { (result ≡ 0) ↔ (b ≡ 9) }
 {
-    std::num::wrapping_sub_u64(b as u64, 9)
+    (b as u64).wrapping_sub(9)
 }
 
 // HREADY, HTRANS and HBURST, if they are not bad.
@@ -21,17 +21,11 @@ pub struct Codes {
     pub hburst: u32,
 }
 
-fn flag(b: bool) -> u64
-    ensures { result ≡ flag_of b }
-{
-    if b { 1 } else { 0 }
-}
-
 // 1 where a code of two bits is not built.
 fn unbuilt(htrans: u64, hburst: u64) -> u64
     ensures { result ≡ flag_of (unbuilt htrans hburst) }
 {
-    flag((htrans == 1) | (hburst == 2))
+    u64::from((htrans == 1) | (hburst == 2))
 }
 
 // The text of three zeros and the bytes between them, from the tab before HREADY to the byte after HBURST, one byte up.
@@ -48,7 +42,7 @@ pub fn codes_at(s: &[u8], after: u64) -> Codes
     ensures { CodesSeen s.now after result }
 {
     let w = words::eight(&s[8..]);
-    let x = std::num::wrapping_sub_u64(w, no_codes(after));
+    let x = w.wrapping_sub(no_codes(after));
     let htrans = x / 0x100000000 % 4;
     let hburst = x / 0x1000000000000;
     // the mask has all bits but those of the columns and of the byte before them
@@ -88,7 +82,7 @@ pub fn flags_at(s: &[u8]) -> Flags
     ensures { FlagsSeen s.now result }
 {
     let w = words::eight(&s[23..]);
-    let x = std::num::wrapping_sub_u64(w, flags_text(0, 0, 0, 0));
+    let x = w.wrapping_sub(flags_text(0, 0, 0, 0));
     Flags {
         bad: x & 0xfffefffefffefffe,
         hmastlock: (x % 2) as u32,

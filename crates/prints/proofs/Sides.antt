@@ -9,6 +9,7 @@ use Prim.Native.Nat.{ℕ, ◌+◌, ◌*◌, ◌/◌, ◌%◌, ◌^◌, ◌<◌}
 use mathlib.Core.Path.{◌≡◌, ◌∙◌}
 use mathlib.Core.List.{[], ◌∷◌, ◌++◌}
 use native.Mathlib.Omega.{arith}
+use Rattle.std.specs.Int.{w32, swap_bytes}
 use Rattle.words.specs.Words.{low_first, number_low}
 use Rattle.prints.specs.Prints.{digits_low, letters_of, backwards}
 
@@ -93,12 +94,8 @@ letter_bits e =
     )
     (sum_of _ _ _ _ _ _ _ _)
 
-pub turned : (w : ℕ) → w < 2 ^ 32
-    → w / 16777216 + w / 65536 % 256 * 256 + w / 256 % 256 * 65536 + w % 256 * 16777216 ≡ number_low 4 (backwards (low_first 4 w)) 0
-turned w h =
-    let w3 : w / 16777216 ≡ w / 256 / 256 / 256 % 256 = omega arith in
-    let w2 : w / 65536 ≡ w / 256 / 256 = omega arith in
-    rw (w3, w2) (omega arith)
+pub turned : (w : ℕ) → swap_bytes w32 w ≡ number_low 4 (backwards (low_first 4 w)) 0
+turned w = omega arith
 
 pub digits_small : (a b d : ℕ) → d ≡ number_low 8 (digits_low b ++ digits_low a) 0 → d < 2 ^ 60
 digits_small a b d e = omega arith

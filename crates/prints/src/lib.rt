@@ -8,7 +8,7 @@ ghost use Rattle.formats.specs.Digits.{tab, hex};
 ghost use Rattle.formats.specs.Lines.{trace_line};
 ghost use Rattle.glances.specs.Glances.{codes_bytes, Driven};
 ghost use Rattle.glances.specs.Puts.{outputs_bytes};
-ghost use Rattle.prints.specs.Prints.{digits_low, letters_of, backwards, inputs_bytes, grant_bytes, Fits, FitsOut};
+ghost use Rattle.prints.specs.Prints.{digits_low, letters_of, inputs_bytes, grant_bytes, Fits, FitsOut};
 
 use rules::{Cycle, Inputs, Outputs};
 
@@ -51,33 +51,17 @@ fn letters(d: u64) -> u64
         + e / 0x1000000000000000 % 2 * 0x100000000000000
 }
 
-// Four bytes in the other order.
-fn reversed(w: u32) -> u32
-    ensures { result ≡ number_low 4 (backwards (low_first 4 w)) 0 }
+// Two masks as text.
+fn masks_text(a: u32, b: u32) -> (u32, u32)
+    requires { (a < 65536) × (b < 65536) }
+    ensures { (result.0 ≡ number_low 4 (hex 4 a) 0) × (result.1 ≡ number_low 4 (hex 4 b) 0) }
 {
-    w / 0x1000000
-        + w / 0x10000 % 0x100 * 0x100
-        + w / 0x100 % 0x100 * 0x10000
-        + w % 0x100 * 0x1000000
-}
-
-// HBUSREQ and HLOCK as text.
-#[derive(Clone, Copy)]
-struct Masks {
-    requests: u32,
-    locks: u32,
-}
-
-fn masks_text(hbusreq: u32, hlock: u32) -> Masks
-    requires { (hbusreq < 65536) × (hlock < 65536) }
-    ensures { (result.requests ≡ number_low 4 (hex 4 hbusreq) 0) × (result.locks ≡ number_low 4 (hex 4 hlock) 0) }
-{
-    let d = digits(hbusreq as u64, hlock as u64);
+    let d = digits(a as u64, b as u64);
     let text = d + 0x3030303030303030 + letters(d) * 39;
-    Masks {
-        requests: reversed((text / 0x100000000) as u32),
-        locks: reversed((text % 0x100000000) as u32),
-    }
+    (
+        ((text / 0x100000000) as u32).swap_bytes(),
+        ((text % 0x100000000) as u32).swap_bytes(),
+    )
 }
 
 // HREADY, HTRANS, HBURST and the bytes between them, from the tab before them to the tab after them.
@@ -93,10 +77,10 @@ fn put_inputs(x: Inputs, out: &mut [u8])
     requires { (17 ≤ length out.old) × Fits x }
     ensures { out.new ≡ sets out.old 0 (inputs_bytes x ++ (tab ∷ 0 ∷ [])) }
 {
-    let masks = masks_text(x.hbusreq, x.hlock);
+    let (requests, locks) = masks_text(x.hbusreq, x.hlock);
     let codes = codes_text(x.hready as u64, x.htrans as u64, x.hburst as u64);
-    words::put_eight(masks.requests as u64 + 0x900000000, out);
-    words::put_eight(masks.locks as u64, &mut out[5..]);
+    words::put_eight(requests as u64 + 0x900000000, out);
+    words::put_eight(locks as u64, &mut out[5..]);
     words::put_eight(codes, &mut out[9..]);
 }
 
@@ -116,10 +100,8 @@ fn grant_text(hgrant: u32, hmaster: u32) -> u64
     requires { (hgrant < 65536) × (hmaster < 16) }
     ensures { result ≡ number_low 8 (grant_bytes hgrant hmaster) 0 }
 {
-    let masks = masks_text(hgrant, hmaster);
-    0x900090000000009
-        + masks.requests as u64 * 0x100
-        + (masks.locks / 0x1000000) as u64 * 0x1000000000000
+    let (grant, owner) = masks_text(hgrant, hmaster);
+    0x900090000000009 + grant as u64 * 0x100 + (owner / 0x1000000) as u64 * 0x1000000000000
 }
 
 // Writes the columns of the outputs, from the tab before them on.

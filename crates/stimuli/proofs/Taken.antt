@@ -4,7 +4,7 @@
 --   formed_masters == a well-formed state has a number of masters that is served
 --   gone           == a cycle that is taken: its trace line, and the state after it
 --   line_taken     == what a cycle comes to is what its line does
---   untaken, left_untaken == where no line is taken, by a glance, and at the end of the loop
+--   left_untaken   == at the end of the loop no line is taken
 --   full, stops_full == a good line after the last cycle is refusal 8
 use Rattle.std.specs.Prelude.{Err, Ok, Some}
 use Prim.Native.Nat.{ℕ, ◌+◌, ◌-◌, ◌≤◌, ◌<◌}
@@ -12,8 +12,8 @@ use mathlib.Core.Path.{◌≡◌, refl, sym, ◌∙◌, ap}
 use mathlib.Core.Bool.{Bool, true, false, ◌&&◌}
 use mathlib.Core.List.{List}
 use native.Mathlib.Omega.{arith}
-use borrow.Author.Tests.{le-leb, leb-false, ltb-false}
-use lib.Dec.{ltb, leb}
+use borrow.Author.Tests.{le-leb, leb-false}
+use lib.Dec.{leb}
 use lib.ListN.{length, take, drop, length-take, length-drop}
 use lib.Seq.{sets, sets-eq}
 use Rattle.rules.specs.declared.State.{State}
@@ -30,7 +30,6 @@ use Rattle.formats.specs.Report.{refused_line}
 use Rattle.formats.specs.Lines.{stimulus_line, trace_line, read_stimulus_of}
 use Rattle.formats.proofs.Promises.{read_stimulus_line_writes}
 use Rattle.streams.specs.Arbiter.{stepped, arbiter_turn}
-use Rattle.glances.specs.Sees.{SeesStimulus}
 use Rattle.stimuli.specs.Stops.{NotTaken}
 use Rattle.streams.specs.Turns.{Put, Lined}
 use Rattle.streams.proofs.Arbitrated.{stepped_on, stepped_out, read_line}
@@ -83,12 +82,8 @@ stops_full s rest buffer out a x n k f stop e g put =
     let is : read_stimulus_of s.n rest 0 ≡ Ok (Some (x, n)) = sym e ∙ g in
     line_taken s x rest buffer out n k false s is (full s x f (stop.full x n is) buffer out k put)
 
--- where no line is taken: one that a glance does not find good, or after the last cycle; and no whole line
+-- where no line is taken: at no whole line, and at the end of the loop
 module _ (s : State) where
-  pub untaken : (rest : List ℕ) (good : Bool) (x : Inputs) → SeesStimulus s.n rest good x → (good && ltb s.count 1000000) ≡ false → NotTaken s rest
-  untaken rest true x v e = record { full = λ y k q. ltb-false s.count 1000000 e }
-  untaken rest false x v e = record { full = λ y k q. absurd (v.none refl y k q) }
-
   short_untaken : (rest : List ℕ) → length rest < 16 → NotTaken s rest
   short_untaken rest h = record { full = λ x k q. absurd (omega (arith, whole_line s.n rest x k q)) }
 

@@ -13,6 +13,7 @@ ghost use Rattle.buses.specs.Buses.{state_from, Fit};
 ghost use Rattle.stimuli.specs.Stops.{NotTaken};
 
 use buses::Bus;
+use glances::DigitTable;
 use rules::{Cycle, Inputs, Refusal, State};
 use streams::{Flow, Progress};
 
@@ -48,21 +49,21 @@ pub fn run(s: State, block: &[u8], out: &mut [u8]) -> Progress<State>
     requires { WellFormed s × (arbiter_room block.now ≤ length out.old) }
     ensures { (result ≡ progress_of (arbiter_stretch s block.now)) × (out.new ≡ over (bytes_of (arbiter_stretch s block.now)) out.old) }
 {
-    let digits = glances::digits();
+    let digits = DigitTable::new();
     let n = s.n;
     let mut bus = buses::bus_of(s);
     let mut at: usize = 0;
     let mut w: usize = 0;
     let mut on = true;
     while on & (16 <= block.len() - at) {
-        let seen = glances::see_stimulus(&digits, n, &block[at..]);
-        on = seen.good & (bus.count < 1000000);
-        if on {
-            let x = seen.inputs;
-            let next = go(n, bus, x, &block[at..], &mut out[w..]);
-            bus = next;
-            at += 16;
-            w += 31;
+        match digits.see_stimulus(n, &block[at..]) {
+            Some(x) if bus.count < 1000000 => {
+                let next = go(n, bus, x, &block[at..], &mut out[w..]);
+                bus = next;
+                at += 16;
+                w += 31;
+            }
+            _ => on = false,
         }
     }
     let state = buses::state(n, bus);

@@ -5,7 +5,7 @@
 --   few_named      == no cycle charges more rules than there are
 --   went_on        == a cycle that is taken: its breach lines, and what is kept
 --   line_taken     == so a line that was read goes on
---   untaken, left_untaken == where no line is taken, by a glance, and at the end of the loop
+--   left_untaken   == at the end of the loop no line is taken
 --   full, stops_full == a good line after the last cycle is refusal 8
 use Rattle.std.specs.Prelude.{Err, Ok, Some}
 use Prim.Native.Nat.{ℕ, ◌+◌, ◌-◌, ◌≤◌, ◌<◌}
@@ -13,8 +13,8 @@ use mathlib.Core.Path.{◌≡◌, refl, sym, ◌∙◌, ap}
 use mathlib.Core.Bool.{Bool, true, false, ◌&&◌}
 use mathlib.Core.List.{List, map}
 use native.Mathlib.Omega.{arith}
-use borrow.Author.Tests.{le-leb, leb-false, ltb-false}
-use lib.Dec.{ltb, leb}
+use borrow.Author.Tests.{le-leb, leb-false}
+use lib.Dec.{leb}
 use lib.ListN.{length, take, drop, length-take, length-drop}
 use Rattle.rules.specs.declared.Refusal.TheVariants.{Full}
 use Rattle.rules.specs.declared.Cycle.{Cycle}
@@ -39,7 +39,6 @@ use Rattle.streams.specs.declared.Tally.{Tally}
 use Rattle.streams.specs.Judging.{judged_to, judge_turn}
 use Rattle.streams.specs.Turns.{Put, Lined}
 use Rattle.streams.specs.Breaches.{Reported, Formed}
-use Rattle.glances.specs.Sees.{SeesTrace}
 use Rattle.traces.specs.Stops.{NotTaken}
 use Rattle.streams.proofs.Judged.{taken_line, refused_line_lem, read_line}
 
@@ -91,12 +90,8 @@ stops_full b rest buffer out a c n k f stop e g put =
     let is : read_trace_of b.judge.n rest 0 ≡ Ok (Some (c, n)) = sym e ∙ g in
     line_taken b c f rest buffer out n k false b is (full b c f (stop.full c n is) buffer out k put)
 
--- where no line is taken: one that a glance does not find good, or after the last cycle; and no whole line
+-- where no line is taken: at no whole line, and at the end of the loop
 module _ (b : Tally) where
-  pub untaken : (rest : List ℕ) (good : Bool) (c : Cycle) → SeesTrace b.judge.n rest good c → (good && ltb b.judge.count 1000000) ≡ false → NotTaken b rest
-  untaken rest true c s e = record { full = λ d k q. ltb-false b.judge.count 1000000 e }
-  untaken rest false c s e = record { full = λ d k q. absurd (s.none refl d k q) }
-
   short_untaken : (rest : List ℕ) → length rest < 31 → NotTaken b rest
   short_untaken rest h = record { full = λ c k q. absurd (omega (arith, whole_line b.judge.n rest c k q)) }
 

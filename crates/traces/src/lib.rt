@@ -11,6 +11,7 @@ ghost use Rattle.streams.specs.Turns.{Lined, over};
 ghost use Rattle.streams.specs.Breaches.{Formed};
 ghost use Rattle.traces.specs.Stops.{NotTaken};
 
+use glances::DigitTable;
 use rules::{Cycle, Refusal};
 use streams::{Flow, Progress, Tally};
 
@@ -59,22 +60,22 @@ pub fn run(b: Tally, block: &[u8], out: &mut [u8]) -> Progress<Tally>
     requires { Formed b × (judge_room block.now ≤ length out.old) }
     ensures { (result ≡ progress_of (judge_stretch b block.now)) × (out.new ≡ over (bytes_of (judge_stretch b block.now)) out.old) }
 {
-    let digits = glances::digits();
+    let digits = DigitTable::new();
     let mut tally = b;
     let mut at: usize = 0;
     let mut w: usize = 0;
     let mut on = true;
     while on & (31 <= block.len() - at) {
         let j = tally.judge;
-        let seen = glances::see_trace(&digits, j.n, &block[at..]);
-        on = seen.good & (j.count < 1000000);
-        if on {
-            let c = seen.cycle;
-            let gone = go(tally, c, &mut out[w..]);
-            let next = gone.tally;
-            tally = next;
-            w += gone.written;
-            at += 31;
+        match digits.see_trace(j.n, &block[at..]) {
+            Some(c) if j.count < 1000000 => {
+                let gone = go(tally, c, &mut out[w..]);
+                let next = gone.tally;
+                tally = next;
+                w += gone.written;
+                at += 31;
+            }
+            _ => on = false,
         }
     }
     if at < block.len() {

@@ -3,4 +3,4 @@ use Rattle.prints.proofs.Outputs.{grant_number}
 use Rattle.prints.proofs.grant_text.Goals as goal
 
 pub returns : goal.returns
-returns c = grant_number c.args.hgrant c.args.hmaster _ _ c.masks_text-masks.ensures.0 c.masks_text-masks.ensures.1
+returns c = grant_number c.args.hgrant c.args.hmaster _ _ c.masks_text-grant.ensures.0 c.masks_text-grant.ensures.1

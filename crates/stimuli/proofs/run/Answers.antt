@@ -3,8 +3,7 @@
 use mathlib.Core.Path.{refl, sym, ◌∙◌}
 use mathlib.Core.Bool.{true≢false}
 use native.Mathlib.Omega.{arith}
-use borrow.Author.Tests.{ltb-true}
-use Rattle.rules.proofs.Choice.{and_left, and_right}
+use Rattle.rules.proofs.Choice.{and_left}
 use Rattle.words.proofs.Words.{part_rest}
 use Rattle.streams.proofs.Arbitrated.{arbiter_program_lem, block_stopped, block_used}
 use Rattle.streams.proofs.Near.{arbiter_by_lines}
@@ -15,21 +14,22 @@ use Rattle.stimuli.proofs.run.Goals as goal
 
 pub go-next-requires : goal.go-next-requires
 go-next-requires c = let g = c.loop-on.invariant.0 in
-    let read = c.see_stimulus-seen.ensures.line (and_left c.see_stimulus-seen.result.good _ c.if-on.true) in
-    (g.formed, c.loop-on.invariant.1, ltb-true _ _ (and_right c.see_stimulus-seen.result.good _ c.if-on.true), read, whole_line _ _ _ _ read, lent arbiter_program_lem g c.requires.1)
+    let read = c.see_stimulus.ensures.line _ c.in-Some.is in
+    (g.formed, c.loop-on.invariant.1, c.if-bus-lt1000000.true, read, whole_line _ _ _ _ read, lent arbiter_program_lem g c.requires.1)
 
-pub loop-on-preserved-then-on : goal.loop-on-preserved-then-on
-loop-on-preserved-then-on c = let g = c.loop-on.invariant.0 in
-    let read = c.see_stimulus-seen.ensures.line (and_left c.see_stimulus-seen.result.good _ c.if-on.true) in
+pub loop-on-preserved-then-bus-lt1000000 : goal.loop-on-preserved-then-bus-lt1000000
+loop-on-preserved-then-bus-lt1000000 c = let g = c.loop-on.invariant.0 in
+    let read = c.see_stimulus.ensures.line _ c.in-Some.is in
     let lined = line_taken _ _ _ _ _ _ _ _ _ read c.go-next.ensures.0 in
+    let going = and_left c.loop-on.on _ c.loop-on-test.true in
     let more = inside_block 16 c.args.block.now c.loop-on.at c.loop-on.on (omega arith) c.loop-on-test.true in
-    (line_on arbiter_program_lem g more lined arbiter_by_lines refl, c.go-next.ensures.1, c.loop-on.invariant.2, λ e. absurd (true≢false (sym c.if-on.true ∙ e)))
+    (line_on arbiter_program_lem g more lined arbiter_by_lines refl, c.go-next.ensures.1, λ e. absurd (true≢false (sym going ∙ e)))
 
 pub stop-w-requires : goal.stop-w-requires
 stop-w-requires c = let g = c.loop-on.invariant.0 in
     let block = c.args.block.now in
     let next = state_from c.args.s.n c.loop-on.bus in
-    let not = rw (← part_rest c.loop-on.at block) at (left_untaken next block c.loop-on.at c.loop-on.on c.loop-on.invariant.3 c.loop-on-test.false) in
+    let not = rw (← part_rest c.loop-on.at block) at (left_untaken next block c.loop-on.at c.loop-on.on c.loop-on.invariant.2 c.loop-on-test.false) in
     rw c.state-state.ensures (g.formed, not, lent arbiter_program_lem g c.requires.1)
 
 pub returns-then-at-block : goal.returns-then-at-block

@@ -3,8 +3,7 @@
 use mathlib.Core.Path.{refl, sym, ◌∙◌}
 use mathlib.Core.Bool.{true≢false}
 use native.Mathlib.Omega.{arith}
-use borrow.Author.Tests.{ltb-true}
-use Rattle.rules.proofs.Choice.{and_left, and_right}
+use Rattle.rules.proofs.Choice.{and_left}
 use Rattle.words.proofs.Words.{part_rest}
 use Rattle.streams.proofs.Judged.{judge_program_lem, block_stopped, block_used}
 use Rattle.streams.proofs.Near.{judge_by_lines}
@@ -14,19 +13,20 @@ use Rattle.traces.proofs.run.Goals as goal
 
 pub go-gone-requires : goal.go-gone-requires
 go-gone-requires c = let g = c.loop-on.invariant.0 in
-    (g.formed, ltb-true _ _ (and_right c.see_trace-seen.result.good _ c.if-on.true), good_cycle _ _ _ _ (c.see_trace-seen.ensures.line (and_left c.see_trace-seen.result.good _ c.if-on.true)), lent judge_program_lem g c.requires.1)
+    (g.formed, c.if-j-lt1000000.true, good_cycle _ _ _ _ (c.see_trace.ensures.line _ c.in-Some.is), lent judge_program_lem g c.requires.1)
 
-pub loop-on-preserved-then-on : goal.loop-on-preserved-then-on
-loop-on-preserved-then-on c = let g = c.loop-on.invariant.0 in
-    let read = c.see_trace-seen.ensures.line (and_left c.see_trace-seen.result.good _ c.if-on.true) in
+pub loop-on-preserved-then-j-lt1000000 : goal.loop-on-preserved-then-j-lt1000000
+loop-on-preserved-then-j-lt1000000 c = let g = c.loop-on.invariant.0 in
+    let read = c.see_trace.ensures.line _ c.in-Some.is in
     let lined = line_taken _ _ g.formed _ _ _ _ _ _ _ read c.go-gone.ensures in
+    let going = and_left c.loop-on.on _ c.loop-on-test.true in
     let more = inside_block 31 c.args.block.now c.loop-on.at c.loop-on.on (omega arith) c.loop-on-test.true in
-    (line_on judge_program_lem g more lined judge_by_lines refl, c.loop-on.invariant.1, λ e. absurd (true≢false (sym c.if-on.true ∙ e)))
+    (line_on judge_program_lem g more lined judge_by_lines refl, λ e. absurd (true≢false (sym going ∙ e)))
 
 pub stop-w-requires : goal.stop-w-requires
 stop-w-requires c = let g = c.loop-on.invariant.0 in
     let most = lent judge_program_lem g c.requires.1 in
-    (g.formed, rw (← part_rest c.loop-on.at c.args.block.now) at (left_untaken _ c.args.block.now c.loop-on.at c.loop-on.on c.loop-on.invariant.2 c.loop-on-test.false), omega arith)
+    (g.formed, rw (← part_rest c.loop-on.at c.args.block.now) at (left_untaken _ c.args.block.now c.loop-on.at c.loop-on.on c.loop-on.invariant.1 c.loop-on-test.false), omega arith)
 
 pub returns-then-at-block : goal.returns-then-at-block
 returns-then-at-block c = let g = c.loop-on.invariant.0 in

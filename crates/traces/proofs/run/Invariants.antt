@@ -8,12 +8,11 @@ use Rattle.rules.specs.Step.{flag_of}
 use Rattle.streams.specs.Judging.{judge_turn}
 use Rattle.streams.specs.Going.{Going}
 use Rattle.streams.specs.Breaches.{Formed}
-use Rattle.glances.specs.Glances.{Digits}
 use Rattle.traces.specs.Stops.{NotTaken}
 use Rattle.traces.proofs.run.Given as goal
 
 abbrev pub invariant-loop-on : goal.invariant-loop-on
-invariant-loop-on l = Going judge_turn 31 315 Formed l.initial.tally l.block l.initial.out l.tally l.at l.out l.w × Digits l.digits × (l.on ≡ false → NotTaken l.tally (drop l.at l.block))
+invariant-loop-on l = Going judge_turn 31 315 Formed l.initial.tally l.block l.initial.out l.tally l.at l.out l.w × (l.on ≡ false → NotTaken l.tally (drop l.at l.block))
 
 abbrev pub decreases-loop-on : goal.decreases-loop-on
 decreases-loop-on l = length l.block - l.at + flag_of l.on

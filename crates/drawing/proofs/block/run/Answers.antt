@@ -3,8 +3,7 @@
 use mathlib.Core.Path.{refl, sym, ◌∙◌}
 use mathlib.Core.Bool.{true≢false}
 use native.Mathlib.Omega.{arith}
-use borrow.Author.Tests.{ltb-true}
-use Rattle.rules.proofs.Choice.{and_left, and_right}
+use Rattle.rules.proofs.Choice.{and_left}
 use Rattle.words.proofs.Words.{part_rest}
 use Rattle.streams.proofs.Stretches.{lent, whole_left, inside_block, line_on, stopped, used_up}
 use Rattle.conversions.proofs.Positions.{facts_of}
@@ -13,25 +12,25 @@ use Rattle.conversions.proofs.DumpLines.{dump_program_lem, block_stopped, block_
 use Rattle.drawing.proofs.Taken.{line_drawn, left_untaken}
 use Rattle.drawing.proofs.block.run.Goals as goal
 
-pub see_trace-seen-requires : goal.see_trace-seen-requires
-see_trace-seen-requires c = (c.loop-on.invariant.1, (facts_of _ c.loop-on.invariant.0.formed).masters, whole_left 31 c.args.block.now c.loop-on.at c.loop-on.on c.loop-on-test.true)
+pub see_trace-requires : goal.see_trace-requires
+see_trace-requires c = ((facts_of _ c.loop-on.invariant.0.formed).masters, whole_left 31 c.args.block.now c.loop-on.at c.loop-on.on c.loop-on-test.true)
 
 pub go-gone-requires : goal.go-gone-requires
 go-gone-requires c = let g = c.loop-on.invariant.0 in
-    (g.formed, ltb-true _ _ (and_right c.see_trace-seen.result.good _ c.if-on.true), lent dump_program_lem g c.requires.1)
+    (g.formed, c.if-position-lt1000000.true, lent dump_program_lem g c.requires.1)
 
-pub loop-on-preserved-then-on : goal.loop-on-preserved-then-on
-loop-on-preserved-then-on c = let g = c.loop-on.invariant.0 in
-    let good = c.see_trace-seen.result.good in
-    let read = c.see_trace-seen.ensures.line (and_left good _ c.if-on.true) in
-    let lined = line_drawn _ _ _ _ _ _ _ _ (ltb-true _ _ (and_right good _ c.if-on.true)) read c.go-gone.ensures in
+pub loop-on-preserved-then-position-lt1000000 : goal.loop-on-preserved-then-position-lt1000000
+loop-on-preserved-then-position-lt1000000 c = let g = c.loop-on.invariant.0 in
+    let read = c.see_trace.ensures.line _ c.in-Some.is in
+    let lined = line_drawn _ _ _ _ _ _ _ _ c.if-position-lt1000000.true read c.go-gone.ensures in
+    let going = and_left c.loop-on.on _ c.loop-on-test.true in
     let more = inside_block 31 c.args.block.now c.loop-on.at c.loop-on.on (omega arith) c.loop-on-test.true in
-    (line_on dump_program_lem g more lined dump_by_lines refl, c.loop-on.invariant.1, λ e. absurd (true≢false (sym c.if-on.true ∙ e)))
+    (line_on dump_program_lem g more lined dump_by_lines refl, λ e. absurd (true≢false (sym going ∙ e)))
 
 pub stop-w-requires : goal.stop-w-requires
 stop-w-requires c = let g = c.loop-on.invariant.0 in
     let most = lent dump_program_lem g c.requires.1 in
-    (rw (← part_rest c.loop-on.at c.args.block.now) at (left_untaken _ c.args.block.now c.loop-on.at c.loop-on.on c.loop-on.invariant.2 c.loop-on-test.false), omega arith)
+    (rw (← part_rest c.loop-on.at c.args.block.now) at (left_untaken _ c.args.block.now c.loop-on.at c.loop-on.on c.loop-on.invariant.1 c.loop-on-test.false), omega arith)
 
 pub returns-then-at-block : goal.returns-then-at-block
 returns-then-at-block c = let g = c.loop-on.invariant.0 in

@@ -6,14 +6,13 @@ use mathlib.Core.Bool.{false}
 use lib.ListN.{length, drop}
 use Rattle.rules.specs.Step.{flag_of}
 use Rattle.streams.specs.Going.{Going}
-use Rattle.glances.specs.Glances.{Digits}
 use Rattle.conversions.specs.Dumping.{dump_turn}
 use Rattle.conversions.proofs.Positions.{Formed}
 use Rattle.drawing.specs.Stops.{NotTaken}
 use Rattle.drawing.proofs.block.run.Given as goal
 
 abbrev pub invariant-loop-on : goal.invariant-loop-on
-invariant-loop-on l = Going dump_turn 31 104 Formed l.initial.position l.block l.initial.out l.position l.at l.out l.w × Digits l.digits × (l.on ≡ false → NotTaken l.position (drop l.at l.block))
+invariant-loop-on l = Going dump_turn 31 104 Formed l.initial.position l.block l.initial.out l.position l.at l.out l.w × (l.on ≡ false → NotTaken l.position (drop l.at l.block))
 
 abbrev pub decreases-loop-on : goal.decreases-loop-on
 decreases-loop-on l = length l.block - l.at + flag_of l.on
