@@ -1,3 +1,2 @@
-pub mod Numbers
 pub mod Texts
 pub mod Unique

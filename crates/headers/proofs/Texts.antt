@@ -1,15 +1,9 @@
--- Lines of words and decimal numbers: the two ends of their writers.
+-- Lines of words and decimal numbers: how long they are, and how they come to stand in a buffer.
 --
---   one_short, one_written       == a word, a number and LF
---   two_short, two_written       == a word, a number, tab, a number and LF
---   breach_short, breach_written == a number, tab, a letter, a number and LF: the line of a breach
-use Rattle.std.specs.Prelude.{Err, Ok}
-use Prim.Native.Nat.{ℕ, ◌+◌, ◌≤◌, ◌<◌}
-use mathlib.Core.Path.{◌≡◌, refl, sym}
-use mathlib.Core.List.{List, [], ◌∷◌, ◌++◌, append_assoc}
-use native.Mathlib.Omega.{arith}
-use native.Mathlib.Nat.{add-zero}
-use lib.ListN.{length, set, length-append}
+--   text_more     == one number more
+--   line_more, wrote_more, counted, wrote_all == the writer of a word and numbers
+--   breach_short, breach_written   == the two ends of the writer of a breach
+use Rattle.std.proofs.Common.{◌≡◌, ℕ, zero, suc, ◌+◌, ◌≤◌, ◌<◌, List, [], ◌∷◌, ◌++◌, length, take, get_or, set, refl, sym, ap, ◌∙◌, add-zero, add-one, arith, length-append, append_assoc, take_all, Err, Ok}
 use lib.Seq.{sets}
 use Rattle.rules.specs.declared.Refusal.TheVariants.{Short}
 use Rattle.rulebook.specs.declared.Rule.{Rule}
@@ -18,56 +12,52 @@ use Rattle.formats.specs.Digits.{decimal}
 use Rattle.formats.specs.Report.{letter_of, index_of, breach_line, write_of, written_of}
 use Rattle.fields.proofs.Stores.{then_sets}
 use Rattle.fields.proofs.Writers.{write_short, write_whole}
+use Rattle.headers.specs.Numbers.{numbers_text, numbers_line}
+
+-- a number with the byte after it
+abbrev pub one_text : ℕ × ℕ → List ℕ
+one_text p = decimal p.0 ++ (p.1 ∷ [])
+
+pub text_more : (ps : List (ℕ × ℕ)) (i : ℕ) (d : ℕ × ℕ) → i < length ps → numbers_text (take (suc i) ps) ≡ numbers_text (take i ps) ++ one_text (get_or ps i d)
+text_more [] i d h = absurd (omega arith)
+text_more (p ∷ ps) zero d h = refl
+text_more (p ∷ ps) (suc i) d h =
+    ap (λ l. decimal p.0 ++ (p.1 ∷ l)) (text_more ps i d (omega arith))
+    ∙ sym (append_assoc (decimal p.0) (p.1 ∷ numbers_text (take i ps)) (one_text (get_or ps i d)))
 
 -- a writer of this line ends with the answer r and the buffer out
-abbrev Ends : List ℕ → List ℕ → Written → List ℕ → Type 0
+abbrev pub Ends : List ℕ → List ℕ → Written → List ℕ → Type 0
 Ends line buf r out = (r ≡ write_of line (length buf)) × (out ≡ written_of line buf)
 
-module _ (word buf : List ℕ) where
-  -- the word, and then a number and a byte
-  first_number : (m r : List ℕ) (n x : ℕ) → m ≡ sets buf 0 word → r ≡ sets m (length word) (decimal n ++ (x ∷ [])) → r ≡ sets buf 0 (word ++ (decimal n ++ (x ∷ [])))
-  first_number m r n x f g = then_sets buf m r 0 (length word) word (decimal n ++ (x ∷ [])) f (sym (add-zero (length word))) g
+module _ (word : List ℕ) (ps : List (ℕ × ℕ)) (buf : List ℕ) where
+  abbrev pub so_far : ℕ → List ℕ
+  so_far i = numbers_line word (take i ps)
 
-  module _ (n k : ℕ) (size : k ≡ length (decimal n)) where
-    abbrev one : List ℕ
-    one = word ++ (decimal n ++ (10 ∷ []))
+  pub line_more : (i : ℕ) (d : ℕ × ℕ) → i < length ps → so_far (i + 1) ≡ so_far i ++ one_text (get_or ps i d)
+  line_more i d h =
+      rw add-one
+      (ap (λ l. word ++ l) (text_more ps i d h) ∙ sym (append_assoc word (numbers_text (take i ps)) (one_text (get_or ps i d))))
 
-    one_size : length word + k + 1 ≡ length one
-    one_size = simp length-append (omega arith)
+  -- one number more is written
+  pub wrote_more : (i at next : ℕ) (d : ℕ × ℕ) (m out : List ℕ) → i < length ps → at ≡ length (so_far i) → m ≡ sets buf 0 (so_far i)
+      → next ≡ at + length (decimal (get_or ps i d).0) + 1 → out ≡ sets m at (one_text (get_or ps i d))
+      → (next ≡ length (so_far (i + 1))) × (out ≡ sets buf 0 (so_far (i + 1)))
+  wrote_more i at next d m out h e w n g =
+      let size : length (so_far i ++ one_text (get_or ps i d)) ≡ length (so_far i) + (length (decimal (get_or ps i d).0) + 1) =
+      length-append (so_far i) (one_text (get_or ps i d)) ∙ ap (λ k. length (so_far i) + k) (length-append (decimal (get_or ps i d).0) ((get_or ps i d).1 ∷ [])) in
+      rw (line_more i d h)
+      (omega (arith, size), then_sets buf m out 0 at (so_far i) (one_text (get_or ps i d)) w (e ∙ sym (add-zero (length (so_far i)))) g)
 
-    pub one_short : length buf < length word + k + 1 → Ends one buf (Err Short) buf
-    one_short h = write_short (Ok tt) (Ok tt) refl one buf _ refl one_size h
+  -- all numbers are counted, and all are written
+  pub counted : (k size : ℕ) → length ps ≤ k → size ≡ length word + length (numbers_text (take k ps)) → size ≡ length (numbers_line word ps)
+  counted k size h e = e ∙ rw (take_all k ps h) (sym (length-append word (numbers_text ps)))
 
-    pub one_written : (m out : List ℕ) (next : ℕ) → length word + k + 1 ≤ length buf
-        → m ≡ sets buf 0 word
-        → next ≡ length word + length (decimal n) + 1
-        → out ≡ sets m (length word) (decimal n ++ (10 ∷ []))
-        → Ends one buf (Ok next) out
-    one_written m out next h f p g =
-        write_whole (Ok tt) (Ok tt) refl one buf next out refl (omega (arith, one_size)) (omega arith) (first_number m out n 10 f g)
-
-  module _ (a b j k : ℕ) (first : j ≡ length (decimal a)) (second : k ≡ length (decimal b)) where
-    abbrev two : List ℕ
-    two = word ++ (decimal a ++ (9 ∷ (decimal b ++ (10 ∷ []))))
-
-    two_size : length word + j + k + 2 ≡ length two
-    two_size = simp length-append (omega arith)
-
-    pub two_short : length buf < length word + j + k + 2 → Ends two buf (Err Short) buf
-    two_short h = write_short (Ok tt) (Ok tt) refl two buf _ refl two_size h
-
-    pub two_written : (m q out : List ℕ) (at next : ℕ) → length word + j + k + 2 ≤ length buf
-        → m ≡ sets buf 0 word
-        → at ≡ length word + length (decimal a) + 1
-        → q ≡ sets m (length word) (decimal a ++ (9 ∷ []))
-        → next ≡ at + length (decimal b) + 1
-        → out ≡ sets q at (decimal b ++ (10 ∷ []))
-        → Ends two buf (Ok next) out
-    two_written m q out at next h f p g r w =
-        write_whole (Ok tt) (Ok tt) refl two buf next out refl (omega (arith, two_size)) (omega arith)
-        (simp append_assoc at
-        (then_sets buf q out 0 at (word ++ (decimal a ++ (9 ∷ []))) (decimal b ++ (10 ∷ []))
-        (first_number m q a 9 f g) (simp length-append (omega arith)) w))
+  pub wrote_all : (i at : ℕ) (out : List ℕ) → length (numbers_line word ps) ≤ length buf → length ps ≤ i → at ≡ length (so_far i) → out ≡ sets buf 0 (so_far i)
+      → Ends (numbers_line word ps) buf (Ok at) out
+  wrote_all i at out room h e w =
+      let all : so_far i ≡ numbers_line word ps = ap (numbers_line word) (take_all i ps h) in
+      let size : at ≡ length (numbers_line word ps) = e ∙ ap length all in
+      write_whole (Ok tt) (Ok tt) refl (numbers_line word ps) buf at out refl size (omega arith) (w ∙ ap (sets buf 0) all)
 
 module _ (t : ℕ) (rule : Rule) (buf : List ℕ) (l i j k : ℕ) (letter : l ≡ letter_of rule) (index : i ≡ index_of rule)
     (first : j ≡ length (decimal t))
