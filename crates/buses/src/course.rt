@@ -22,11 +22,9 @@ fn opened(hburst: u32, lock: u32) -> u32
     ensures { Begun (phase_opened (burst_of hburst) (eqb lock 1)) result }
 {
     match signals::burst(hburst) {
-        Burst::Single => 0,
         Burst::Unspecified => 4 * lock,
         Burst::Fixed(beats) => beats - 1,
-        Burst::NotBuilt => 0,
-        Burst::NoCode => 0,
+        Burst::Single | Burst::NotBuilt | Burst::NoCode => 0,
     }
 }
 
@@ -36,8 +34,8 @@ fn fresh(n: u32, b: Bus, x: Inputs) -> Course
     ensures { Runs n b x result.busy result.phase }
 {
     let first = opened(x.hburst, b.hmastlock);
-    let busy = signals::pick_number(x.htrans == 2, first, 0);
-    let phase = signals::pick_number((x.hready == 1) & (x.htrans == 2), first, 5);
+    let busy = signals::pick(x.htrans == 2, first, 0);
+    let phase = signals::pick((x.hready == 1) & (x.htrans == 2), first, 5);
     Course { busy, phase }
 }
 

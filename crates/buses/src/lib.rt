@@ -11,7 +11,7 @@ ghost use Rattle.rules.specs.Valid.{inputs_check};
 ghost use Rattle.rules.specs.Winner.{winner as winner_of};
 ghost use Rattle.rules.specs.State.{WellFormed};
 ghost use Rattle.rules.specs.Phase.{seen};
-ghost use Rattle.rules.specs.Step.{flag_of, shown, step_of};
+ghost use Rattle.rules.specs.Step.{shown, step_of};
 ghost use Rattle.signals.specs.Flags.{Stands};
 ghost use Rattle.buses.specs.Buses.{phase_from, phase_number, state_from, Fit, Due, decide_of, Chooses, Moves};
 
@@ -26,12 +26,6 @@ pub struct Bus {
     pub granted: u32,
     pub phase: u32,
     pub count: u32,
-}
-
-fn flag(b: bool) -> u32
-    ensures { result ≡ flag_of b }
-{
-    if b { 1 } else { 0 }
 }
 
 fn phase_number(p: Phase) -> u32
@@ -65,8 +59,8 @@ pub fn bus_of(s: State) -> Bus
     Bus {
         g: s.g,
         m: s.m,
-        hmastlock: flag(s.hmastlock),
-        granted: flag(s.granted),
+        hmastlock: u32::from(s.hmastlock),
+        granted: u32::from(s.granted),
         phase: phase_number(p),
         count: s.count,
     }
@@ -132,7 +126,7 @@ fn choose(n: u32, b: Bus, x: Inputs, held: u32) -> Choice
         if x.hbusreq == 0 {
             Choice {
                 g: 0,
-                granted: flag(b.m != 0),
+                granted: u32::from(b.m != 0),
                 decide: 1,
             }
         } else {
@@ -190,10 +184,10 @@ fn wait(n: u32, b: Bus, x: Inputs) -> Turn
     let over = x.hready == 1;
     let bus = Bus {
         g: b.g,
-        m: signals::pick_number(over, b.g, b.m),
-        hmastlock: signals::pick_number(over, lock, b.hmastlock),
+        m: signals::pick(over, b.g, b.m),
+        hmastlock: signals::pick(over, lock, b.hmastlock),
         granted: 1 - x.hready,
-        phase: signals::pick_number(over, 5, b.phase),
+        phase: signals::pick(over, 5, b.phase),
         count: b.count + 1,
     };
     Turn { bus, decide: 0 }

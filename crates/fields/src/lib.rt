@@ -37,8 +37,8 @@ pub fn digit_or(b: u8, none: u32) -> u32
     let c = b as u32;
     let low = std::num::wrapping_sub_u32(c, 48);
     let high = std::num::wrapping_sub_u32(c, 87);
-    let letter = signals::pick_number((10 <= high) & (high < 16), high, none);
-    signals::pick_number(low < 10, low, letter)
+    let letter = signals::pick((10 <= high) & (high < 16), high, none);
+    signals::pick(low < 10, low, letter)
 }
 
 // A column of one digit, and 16 where it is none.
