@@ -103,10 +103,7 @@ fn winner(n: u32, g: u32, m: u32) -> u32
     requires { (n ≤ 16) × (g < n) × (m < 2 ^ n) × (eqb m 0 ≡ false) }
     ensures { winner_of n g m ≡ Some result }
 {
-    match walk::winner(n, g, m) {
-        Some(i) => i,
-        None => 0,
-    }
+    walk::winner(n, g, m).unwrap()
 }
 
 // What a cycle with GRANTED low chooses: the grant and GRANTED after it, and DECIDE.

@@ -1,12 +1,12 @@
 -- Lost counts looked through as a list.
 --
 --   some_listed == some count of a list is not 0 exactly where some master has lost
-use Prim.Native.Nat.{ℕ, suc}
+use Prim.Native.Nat.{ℕ}
 use mathlib.Core.Path.{◌≡◌, refl, sym, ◌∙◌, ap}
 use mathlib.Core.Bool.{Bool, not, ◌||◌}
 use mathlib.Core.List.{List, [], ◌∷◌}
 use lib.Dec.{eqb}
-use lib.ListN.{length, get_or}
+use lib.ListN.{length}
 use Rattle.std.specs.List.{list_any}
 use Rattle.rulebook.specs.Columns.{some_below, some_master}
 use Rattle.rulebook.specs.State.{some_count}

@@ -2,19 +2,10 @@
 ghost use Rattle.std.specs.Prelude.{◌≡◌, not, ◌||◌, eqb};
 ghost use Rattle.std.specs.List.{list_any};
 ghost use Rattle.rulebook.specs.Columns.{some_master};
-ghost use Rattle.rulebook.specs.State.{is_good, wrong_count, some_count, watch_ok, no_watch, no_output, starts_out};
+ghost use Rattle.rulebook.specs.State.{wrong_count, some_count, watch_ok, no_watch, no_output, starts_out};
 
 use rulebook::{Judge, Watch};
-use rules::{Outputs, Refusal};
-
-pub fn is_good(c: Result<(), Refusal>) -> bool
-    ensures { result ≡ is_good c }
-{
-    match c {
-        Ok(()) => true,
-        Err(_) => false,
-    }
-}
+use rules::Outputs;
 
 pub fn some_wrong(n: u32, lost: [u32; 16]) -> bool
     ensures { result ≡ some_master (wrong_count n lost) }
@@ -57,15 +48,10 @@ fn no_output(o: Outputs) -> bool
 fn starts_out(j: Judge) -> bool
     ensures { result ≡ starts_out j }
 {
-    let p = j.previous;
-    let x = p.inputs;
-    let o = p.outputs;
-    let w = j.watch;
-    let lost = j.lost;
-    let still = keeping::columns::no_input(x);
-    let dark = no_output(o);
-    let free = no_watch(w);
-    let some = some_lost(lost);
+    let still = keeping::columns::no_input(j.previous.inputs);
+    let dark = no_output(j.previous.outputs);
+    let free = no_watch(j.watch);
+    let some = some_lost(j.lost);
     still & dark & (j.locked == 0) & (j.waited == 0) & !j.opened & free & !some
 }
 

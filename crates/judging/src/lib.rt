@@ -51,13 +51,9 @@ pub fn start(n: u32) -> Started
 pub fn well_formed(j: Judge) -> bool
     ensures { result ≡ well_formed j }
 {
-    let p = j.previous;
-    let w = j.watch;
-    let lost = j.lost;
-    let check = signals::check_cycle(j.n, p);
-    let good = form::is_good(check);
-    let wrong = form::some_wrong(j.n, lost);
-    let watch = form::watch_ok(j.opened, w);
+    let good = signals::check_cycle(j.n, j.previous).is_ok();
+    let wrong = form::some_wrong(j.n, j.lost);
+    let watch = form::watch_ok(j.opened, j.watch);
     let start = form::start_ok(j);
     (2 <= j.n)
         & (j.n <= 16)
@@ -94,12 +90,10 @@ fn take(j: Judge, c: Cycle) -> Ruled
     ensures { result ≡ ruled_of (taken_of j c) }
 {
     let kept = keeping::keep(j, c);
-    let judge = kept.judge;
-    let mask = charging::charge_all(j, c, kept.reached);
     Ruled {
-        judge,
+        judge: kept.judge,
         verdict: Ok(()),
-        mask,
+        mask: charging::charge_all(j, c, kept.reached),
     }
 }
 
