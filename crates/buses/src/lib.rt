@@ -18,6 +18,7 @@ use rules::{Inputs, Outputs, Phase, State};
 use turn::Now;
 
 // A state but for n. A flag is 0 or 1, and the phase is one number: 0 Done, 1 to 3 Fixed with so many ready cycles to come, 4 Open, 5 Fresh.
+// Stays: plain numbers, since the phase as an enum costs a quarter more in the loop (docs/DECISIONS.md, 26).
 #[derive(Clone, Copy)]
 pub struct Bus {
     pub g: u32,
@@ -28,6 +29,7 @@ pub struct Bus {
     pub count: u32,
 }
 
+// Stays: the numbers are this crate's own and both types are not, so no From can stand here.
 fn phase_number(p: Phase) -> u32
     ensures { result ≡ phase_number p }
 {

@@ -67,6 +67,7 @@ pub fn well_formed(j: Judge) -> bool
 }
 
 // The answer of a step with its charges as one number: bit i is that of the i-th rule, in the order of the report.
+// Stays: a verdict beside the judge, as in `Judgement`.
 #[derive(Clone, Copy)]
 pub struct Ruled {
     pub judge: Judge,
@@ -127,8 +128,8 @@ fn flags_in(number: u32) -> [bool; 21]
 {
     let mut flags = [false; 21];
     let mut m = number;
-    for i in 0..21 {
-        flags[i] = m % 2 == 1;
+    for flag in flags.iter_mut() {
+        *flag = m % 2 == 1;
         m /= 2;
     }
     flags

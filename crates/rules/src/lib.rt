@@ -64,6 +64,7 @@ pub struct State {
 }
 
 // What the masters and the slave drive in a cycle, as the page's five columns.
+// Stays: numbers, here and in Outputs, since a column may hold what no flag, code or mask is, which refusal 4 answers.
 #[derive(Clone, Copy, Default, PartialEq, Eq)]
 pub struct Inputs {
     pub hbusreq: u32,

@@ -17,6 +17,7 @@ pub fn number(r: Refusal) -> u32
 }
 
 // The sort of a burst code, in one place.
+// Stays: document 01 asks for one match over the code, with ranges.
 pub fn burst(code: u32) -> Burst
     ensures { result ≡ burst_of code }
 {

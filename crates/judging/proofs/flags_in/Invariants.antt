@@ -2,5 +2,5 @@
 use Rattle.judging.proofs.Digits.{Spread}
 use Rattle.judging.proofs.flags_in.Given as goal
 
-abbrev pub invariant-loop-i : goal.invariant-loop-i
-invariant-loop-i l = Spread l.number l.m l.i l.flags
+abbrev pub invariant-loop-flag : goal.invariant-loop-flag
+invariant-loop-flag l = Spread l.number l.m l.flag-index l.flag-items
