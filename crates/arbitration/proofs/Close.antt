@@ -1,10 +1,9 @@
 -- How the parts of a step come together, over plain values.
 --
---   numbered, counted == what holds of a state holds of the numbers that stand for it
---   went_on         == an accepted cycle
+--   numbered        == what holds of a state holds of the numbers that stand for it
 --   bad             == a tested one that is refused
 --   malformed, full == the refusals before the tests
-use Rattle.std.specs.Prelude.{Err, Ok}
+use Rattle.std.specs.Prelude.{Err}
 use Prim.Native.Nat.{◌≤◌, ◌<◌}
 use mathlib.Core.Path.{◌≡◌, sym, ◌∙◌}
 use mathlib.Core.Bool.{Bool, true, false, not}
@@ -14,7 +13,6 @@ use Rattle.rules.specs.declared.Refusal.TheVariants.{Full, State as StateRefusal
 use Rattle.rules.specs.Results.{Check}
 use Rattle.rules.specs.declared.State.{State}
 use Rattle.rules.specs.declared.Inputs.{Inputs}
-use Rattle.rules.specs.declared.Outputs.{Outputs}
 use Rattle.rules.specs.Codes.{most_cycles}
 use Rattle.rules.specs.Valid.{inputs_check}
 use Rattle.rules.specs.State.{well_formed, WellFormed}
@@ -23,12 +21,6 @@ use Rattle.rules.proofs.WellFormed.{test_of}
 
 pub numbered : {s s' : State} → s' ≡ s → WellFormed s → WellFormed s'
 numbered e w = rw e w
-
-pub counted : {s s' : State} → s' ≡ s → s.count < most_cycles → s'.count < most_cycles
-counted e w = rw e w
-
-pub went_on : (s s' t t' : State) (x : Inputs) (o : Outputs) → s' ≡ s → step_of s' x ≡ Ok (t', o) → t ≡ t' → Ok (t, o) ≡ step_of s x
-went_on s s' t t' x o same step after = cc
 
 pub bad : (s : State) (x : Inputs) (c : Check) (r : Refusal) → WellFormed s → s.count < most_cycles → c ≡ inputs_check s.n x → c ≡ Err r
     → Err (r, s) ≡ step_of s x

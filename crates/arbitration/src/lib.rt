@@ -55,28 +55,12 @@ pub fn well_formed(s: State) -> bool
 }
 
 // A cycle of a well-formed state below the count limit, whose inputs are valid for n.
-fn accept(s: State, x: Inputs) -> Result<(State, Outputs), (Refusal, State)>
+fn take(s: State, x: Inputs) -> (State, Outputs)
     requires { WellFormed s × (s.count < most_cycles) × (inputs_check s.n x ≡ Ok tt) }
-    ensures { result ≡ step_of s x }
+    ensures { step_of s x ≡ Ok result }
 {
-    let n = s.n;
-    let b = buses::bus_of(s);
-    let went = buses::advance(n, b, x);
-    let after = went.bus;
-    let o = went.outputs;
-    let t = buses::state(n, after);
-    Ok((t, o))
-}
-
-// A cycle of a well-formed state below the count limit: 4, 5, 6.
-fn take(s: State, x: Inputs) -> Result<(State, Outputs), (Refusal, State)>
-    requires { WellFormed s × (s.count < most_cycles) }
-    ensures { result ≡ step_of s x }
-{
-    match signals::check_inputs(s.n, x) {
-        Ok(()) => accept(s, x),
-        Err(r) => Err((r, s)),
-    }
+    let went = buses::advance(s.n, buses::bus_of(s), x);
+    (buses::state(s.n, went.bus), went.outputs)
 }
 
 // One cycle: the state after it and what the arbiter drove, or the first refusal of 10, 8, 4, 5, 6 with the state as it came.
@@ -89,5 +73,8 @@ pub fn step(s: State, x: Inputs) -> Result<(State, Outputs), (Refusal, State)>
     if 1000000 <= s.count {
         return Err((Refusal::Full, s));
     }
-    take(s, x)
+    match signals::check_inputs(s.n, x) {
+        Ok(()) => Ok(take(s, x)),
+        Err(r) => Err((r, s)),
+    }
 }

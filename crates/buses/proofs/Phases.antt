@@ -5,10 +5,11 @@
 --   begun_number == so has a phase that is not Fresh
 --   picked       == a choice between two phases is the choice between their numbers
 --   four_beats, some_beats == a fixed burst has four beats
---   opens_single, opens_incr, opens_fixed, opens_unbuilt, opens_none == the phase that a first beat opens
+--   opens_incr, opens_fixed, opens_none == the phase that a first beat opens
 --   stays_done, counted, stays_open == the phase after a later cycle with GRANTED low: of Done, of Fixed, of Open
 use Prim.Native.Nat.{ℕ, zero, suc, ◌*◌, ◌-◌, ◌≤◌}
 use mathlib.Core.Path.{◌≡◌, refl, sym, ◌∙◌}
+use mathlib.Core.Logic.{◌⊎◌, inl, inr}
 use mathlib.Core.Bool.{Bool, true, false, cond}
 use native.Mathlib.Omega.{arith}
 use borrow.Author.Tests.{leb-true, le-leb, ne_eqb}
@@ -78,10 +79,6 @@ some_beats h beats b e f = omega (arith, four_beats h beats b e f)
 
 -- the phase that a first beat opens, by the sort of its burst
 module _ (h lock : ℕ) (b : Burst) (e : b ≡ burst_of h) where
-  pub opens_single : b ≡ burst.Single → Begun (phase_opened (burst_of h) (eqb lock 1)) 0
-  unfolding phase_from
-  opens_single f = rw (← e, f) (begun 0 (omega arith))
-
   pub opens_incr : lock ≤ 1 → b ≡ burst.Unspecified → Begun (phase_opened (burst_of h) (eqb lock 1)) (4 * lock)
   opens_incr few f = rw (← e, f) (open_by lock few)
 
@@ -89,13 +86,12 @@ module _ (h lock : ℕ) (b : Burst) (e : b ≡ burst_of h) where
   unfolding phase_from
   opens_fixed beats f = rw (← e, f, four_beats h beats b e f) (begun 3 (omega arith))
 
-  pub opens_unbuilt : b ≡ burst.NotBuilt → Begun (phase_opened (burst_of h) (eqb lock 1)) 0
+  -- no other burst holds the bus after its first beat
+  pub opens_none : (b ≡ burst.Single) ⊎ ((b ≡ burst.NotBuilt) ⊎ (b ≡ burst.NoCode)) → Begun (phase_opened (burst_of h) (eqb lock 1)) 0
   unfolding phase_from
-  opens_unbuilt f = rw (← e, f) (begun 0 (omega arith))
-
-  pub opens_none : b ≡ burst.NoCode → Begun (phase_opened (burst_of h) (eqb lock 1)) 0
-  unfolding phase_from
-  opens_none f = rw (← e, f) (begun 0 (omega arith))
+  opens_none (inl f) = rw (← e, f) (begun 0 (omega arith))
+  opens_none (inr (inl f)) = rw (← e, f) (begun 0 (omega arith))
+  opens_none (inr (inr f)) = rw (← e, f) (begun 0 (omega arith))
 
 -- a ready cycle less
 counted_by : (k : ℕ) → 1 ≤ k → k ≤ 3 → (h : ℕ) → h ≤ 1 → Begun (cond (eqb h 1) (cond (leb k 1) Done (Fixed (k - 1))) (Fixed k)) (k - h)

@@ -2,22 +2,23 @@
 #![tactic(auto)]
 
 mod course;
+mod turn;
 mod walk;
 
-ghost use Rattle.std.specs.Prelude.{◌≡◌, false, ◌≤◌, ◌<◌, ◌^◌, eqb};
+ghost use Rattle.std.specs.Prelude.{◌≡◌, ◌<◌};
 ghost use Rattle.rules.specs.Codes.{most_cycles};
 ghost use Rattle.rules.specs.Masks.{high, single};
 ghost use Rattle.rules.specs.Valid.{inputs_check};
-ghost use Rattle.rules.specs.Winner.{winner as winner_of};
 ghost use Rattle.rules.specs.State.{WellFormed};
-ghost use Rattle.rules.specs.Phase.{seen};
-ghost use Rattle.rules.specs.Step.{flag_of, shown, step_of};
+ghost use Rattle.rules.specs.Step.{step_of};
 ghost use Rattle.signals.specs.Flags.{Stands};
-ghost use Rattle.buses.specs.Buses.{phase_from, phase_number, state_from, Fit, Due, decide_of, Chooses, Moves};
+ghost use Rattle.buses.specs.Buses.{phase_from, phase_number, state_from, Fit};
 
 use rules::{Inputs, Outputs, Phase, State};
+use turn::Now;
 
 // A state but for n. A flag is 0 or 1, and the phase is one number: 0 Done, 1 to 3 Fixed with so many ready cycles to come, 4 Open, 5 Fresh.
+// Stays: plain numbers, since the phase as an enum costs a quarter more in the loop (docs/DECISIONS.md, 26).
 #[derive(Clone, Copy)]
 pub struct Bus {
     pub g: u32,
@@ -28,12 +29,7 @@ pub struct Bus {
     pub count: u32,
 }
 
-fn flag(b: bool) -> u32
-    ensures { result ≡ flag_of b }
-{
-    if b { 1 } else { 0 }
-}
-
+// Stays: the numbers are this crate's own and both types are not, so no From can stand here.
 fn phase_number(p: Phase) -> u32
     ensures { result ≡ phase_number p }
 {
@@ -65,8 +61,8 @@ pub fn bus_of(s: State) -> Bus
     Bus {
         g: s.g,
         m: s.m,
-        hmastlock: flag(s.hmastlock),
-        granted: flag(s.granted),
+        hmastlock: u32::from(s.hmastlock),
+        granted: u32::from(s.granted),
         phase: phase_number(p),
         count: s.count,
     }
@@ -104,128 +100,6 @@ fn mask(i: u32) -> u32
     1 << i
 }
 
-// The grant after a decision that some master asked for.
-fn winner(n: u32, g: u32, m: u32) -> u32
-    requires { (n ≤ 16) × (g < n) × (m < 2 ^ n) × (eqb m 0 ≡ false) }
-    ensures { winner_of n g m ≡ Some result }
-{
-    match walk::winner(n, g, m) {
-        Some(i) => i,
-        None => 0,
-    }
-}
-
-// What a cycle with GRANTED low chooses: the grant and GRANTED after it, and DECIDE.
-#[derive(Clone, Copy)]
-struct Choice {
-    g: u32,
-    granted: u32,
-    decide: u32,
-}
-
-// The choice of a cycle with GRANTED low: a decision where nothing holds the bus, and else all stays as it is.
-fn choose(n: u32, b: Bus, x: Inputs, held: u32) -> Choice
-    requires { Due n b x × (b.granted ≡ 0) }
-    ensures { Chooses n b x (eqb held 0) result.g result.granted result.decide }
-{
-    if held == 0 {
-        if x.hbusreq == 0 {
-            Choice {
-                g: 0,
-                granted: flag(b.m != 0),
-                decide: 1,
-            }
-        } else {
-            Choice {
-                g: winner(n, b.g, x.hbusreq),
-                granted: 1,
-                decide: 1,
-            }
-        }
-    } else {
-        Choice {
-            g: b.g,
-            granted: 0,
-            decide: 0,
-        }
-    }
-}
-
-// What a cycle comes to: the bus after it, and DECIDE.
-#[derive(Clone, Copy)]
-struct Turn {
-    bus: Bus,
-    decide: u32,
-}
-
-// A cycle with GRANTED low, where request is the owner's request: a decision, unless the owner's lock or burst holds the bus.
-fn decide(n: u32, b: Bus, x: Inputs, request: u32) -> Turn
-    requires { Due n b x × (b.granted ≡ 0) × Stands request (high x.hbusreq b.m) }
-    ensures { Moves n b x result.decide result.bus }
-{
-    let lock = bit(x.hlock, b.m);
-    let course = course::run(n, b, x, request);
-    let held = (b.hmastlock & lock) | course.busy;
-    let choice = choose(n, b, x, held);
-    let bus = Bus {
-        g: choice.g,
-        m: b.m,
-        hmastlock: b.hmastlock,
-        granted: choice.granted,
-        phase: course.phase,
-        count: b.count + 1,
-    };
-    Turn {
-        bus,
-        decide: choice.decide,
-    }
-}
-
-// A cycle with GRANTED high: a handover where it is ready, and else a wait.
-fn wait(n: u32, b: Bus, x: Inputs) -> Turn
-    requires { Due n b x × (b.granted ≡ 1) }
-    ensures { Moves n b x result.decide result.bus }
-{
-    let lock = bit(x.hlock, b.g);
-    let over = x.hready == 1;
-    let bus = Bus {
-        g: b.g,
-        m: signals::pick_number(over, b.g, b.m),
-        hmastlock: signals::pick_number(over, lock, b.hmastlock),
-        granted: 1 - x.hready,
-        phase: signals::pick_number(over, 5, b.phase),
-        count: b.count + 1,
-    };
-    Turn { bus, decide: 0 }
-}
-
-// Any cycle, where request is the owner's request.
-fn cycle(n: u32, b: Bus, x: Inputs, request: u32) -> Turn
-    requires { Due n b x × Stands request (high x.hbusreq b.m) }
-    ensures { Moves n b x result.decide result.bus }
-{
-    if b.granted == 0 {
-        decide(n, b, x, request)
-    } else {
-        wait(n, b, x)
-    }
-}
-
-// What is shown in a cycle, where request is the owner's request.
-fn show(n: u32, b: Bus, x: Inputs, request: u32, decide: u32) -> Outputs
-    requires { (b.g < 32) × Fit b × Stands request (high x.hbusreq b.m) × Stands decide (decide_of n b x) }
-    ensures { result ≡ shown (state_from n b) (seen (state_from n b) x) (decide_of n b x) }
-{
-    Outputs {
-        hgrant: mask(b.g),
-        hmaster: b.m,
-        hmastlock: b.hmastlock,
-        decide,
-        granted: b.granted,
-        busreq: request,
-    }
-}
-
 // The bus after a cycle that was taken, and what was shown in it.
 #[derive(Clone, Copy)]
 pub struct Went {
@@ -238,9 +112,15 @@ pub fn advance(n: u32, b: Bus, x: Inputs) -> Went
     requires { WellFormed (state_from n b) × Fit b × (b.count < most_cycles) × (inputs_check n x ≡ Ok tt) }
     ensures { (step_of (state_from n b) x ≡ Ok (state_from n result.bus, result.outputs)) × Fit result.bus }
 {
-    let request = bit(x.hbusreq, b.m);
-    let turn = cycle(n, b, x, request);
-    let bus = turn.bus;
-    let outputs = show(n, b, x, request, turn.decide);
-    Went { bus, outputs }
+    let now = Now {
+        n,
+        bus: b,
+        inputs: x,
+        request: bit(x.hbusreq, b.m),
+    };
+    let turn = now.turn();
+    Went {
+        bus: turn.bus,
+        outputs: now.show(turn.decide),
+    }
 }

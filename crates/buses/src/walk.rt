@@ -13,6 +13,7 @@ fn next(n: u32, i: u32) -> u32
 }
 
 // The first requester of the mask m met walking g+1, g+2, .. around and ending at g itself.
+// Stays: document 01 asks for a loop whose value `break` gives.
 pub fn winner(n: u32, g: u32, m: u32) -> Option<u32>
     requires { (n ≤ 16) × (g < n) × (m < 2 ^ n) }
     ensures { result ≡ winner_of n g m }

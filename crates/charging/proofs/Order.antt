@@ -1,16 +1,18 @@
--- The charges as one number, from their three groups.
+-- The charges as flags, one for each rule, and as one number.
 --
---   of_five, of_seven == flags one after the other as digits
---   alone_is, first_is, compared_is == a group, from the flags that the code finds
---   at_first == the first cycle's charges are those of this cycle alone and of the first
---   later    == another's are those of this cycle alone, of the comparison, and G11
-use Prim.Native.Nat.{ℕ, ◌+◌, ◌*◌}
-use mathlib.Core.Path.{◌≡◌}
+--   Counted l left m == the flags l but for those that are left have the number m
+--   mask_next, mask_small, mask_whole == such a number takes one flag more; it is small; it has taken all
+--   at_first, later == the flags that the code finds, in the order of the report: at the first cycle, and at another
+use Prim.Native.Nat.{ℕ, ◌+◌, ◌*◌, ◌^◌, ◌≤◌, ◌<◌}
+use mathlib.Core.Path.{◌≡◌, sym, ◌∙◌}
 use mathlib.Core.Bool.{Bool, false, ◌&&◌}
-use mathlib.Core.List.{[], ◌∷◌, map}
+use mathlib.Core.List.{List, [], ◌∷◌, ◌++◌, append_assoc, map}
 use native.Mathlib.Omega.{arith}
-use borrow.Author.Tests.{eq-eqb, ne_eqb}
 use lib.Dec.{eqb}
+use borrow.Author.Tests.{eq-eqb, ne_eqb}
+use lib.ListN.{length, length-append}
+use Rattle.std.proofs.lemmas.List.{nil_from_length}
+use lib.Pow.{pow_mono}
 use Rattle.rules.specs.declared.Cycle.{Cycle}
 use Rattle.rules.specs.Step.{flag_of}
 use Rattle.rulebook.specs.declared.Judge.{Judge}
@@ -18,46 +20,51 @@ use Rattle.rulebook.specs.Columns.{owners_request, handover, some_master}
 use Rattle.rulebook.specs.Rules.{locked_incr, waits, a3, a4, a5, a6, a7, a8, a9, g1, g4, g5, g6, g7, g8, g9, g10, g12, rules}
 use Rattle.rulebook.specs.Charges.{after_decision, reaches, on_g2, on_g3, charges}
 use Rattle.rulebook.specs.Named.{mask_of}
-use Rattle.charging.specs.Groups.{alone, first, compared}
+use Rattle.rulebook.proofs.Named.{mask_below}
 
-pub of_five : (a b c d e : Bool) (x y z u v : ℕ) → x ≡ flag_of a → y ≡ flag_of b → z ≡ flag_of c → u ≡ flag_of d → v ≡ flag_of e
-    → x + 2 * (y + 2 * (z + 2 * (u + 2 * v))) ≡ mask_of (a ∷ b ∷ c ∷ d ∷ e ∷ [])
+-- the flags l but for those that are left have the number m
+pub record Counted (l left : List Bool) (m : ℕ) : Type 0 where
+  pub size : length l ≡ 21
+  pub done : List Bool
+  pub split : l ≡ left ++ done
+  pub is : m ≡ mask_of done
+
+pub mask_next : {l left next : List Bool} {m : ℕ} (b : Bool) (v : ℕ) → Counted l left m → left ≡ next ++ (b ∷ []) → v ≡ flag_of b → Counted l next (2 * m + v)
 unfolding mask_of
-of_five a b c d e x y z u v p q r s t = rw (p, q, r, s, t) (omega arith)
+mask_next {l} {left} {next} {m} b v c e f =
+    record {
+      size = c.size;
+      done = b ∷ c.done;
+      split = c.split ∙ rw e (append_assoc next (b ∷ []) c.done);
+      is = rw (← c.is, f) (omega arith);
+    }
 
-pub of_seven : (a b c d e f g : Bool) (x y m : ℕ) → x ≡ flag_of a → y ≡ flag_of b → m ≡ mask_of (c ∷ d ∷ e ∷ f ∷ g ∷ [])
-    → x + 2 * (y + 2 * m) ≡ mask_of (a ∷ b ∷ c ∷ d ∷ e ∷ f ∷ g ∷ [])
-unfolding mask_of
-of_seven a b c d e f g x y m p q r = rw (p, q, r)
+pub mask_small : {l left : List Bool} {m : ℕ} → Counted l left m → m < 2097152
+mask_small {l} {left} {m} c =
+    let size : length left + length c.done ≡ 21 = sym (length-append left c.done) ∙ (rw c.split at c.size) in
+    let low : 2 ^ length c.done ≤ 2 ^ 21 = pow_mono {i = length c.done} {j = 21} (omega arith) in
+    omega (arith, c.is, mask_below c.done)
 
-pub first_is : (c : Cycle) (a9c g12c : Bool) (x y : ℕ) → a9c ≡ a9 c → g12c ≡ g12 c → x ≡ flag_of a9c → y ≡ flag_of g12c → 256 * x + 1048576 * y ≡ first c
-unfolding first
-first_is c a9c g12c x y p q r s = rw (r, s, p, q)
+pub mask_whole : {l left : List Bool} {m : ℕ} → Counted l left m → length left ≡ 0 → m ≡ mask_of l
+mask_whole {l} {left} {m} c e = rw (c.split, nil_from_length left e) (c.is)
 
-pub compared_is : (p t : Cycle) (b3 b4 b5 b6 b7 h4 h5 h6 h7 h8 h9 h10 : Bool) (low high : ℕ)
-    → b3 ≡ a3 p t → b4 ≡ a4 p t → b5 ≡ a5 p t → b6 ≡ a6 p t → b7 ≡ a7 p t
-    → h4 ≡ g4 p t → h5 ≡ g5 p t → h6 ≡ g6 p t → h7 ≡ g7 p t → h8 ≡ g8 p t → h9 ≡ g9 p t → h10 ≡ g10 p t
-    → low ≡ mask_of (b3 ∷ b4 ∷ b5 ∷ b6 ∷ b7 ∷ []) → high ≡ mask_of (h4 ∷ h5 ∷ h6 ∷ h7 ∷ h8 ∷ h9 ∷ h10 ∷ [])
-    → 4 * low + 4096 * high ≡ compared p t
-unfolding compared
-compared_is p t b3 b4 b5 b6 b7 h4 h5 h6 h7 h8 h9 h10 low high e3 e4 e5 e6 e7 f4 f5 f6 f7 f8 f9 f10 l h =
-    rw (l, h, e3, e4, e5, e6, e7, f4, f5, f6, f7, f8, f9, f10)
+module _ (j : Judge) (c : Cycle) (b1 b8 h1 g2w g3w over request : Bool)
+    (e1 : over ≡ handover c) (e2 : request ≡ owners_request c) (e3 : g2w ≡ on_g2 j.watch) (e4 : g3w ≡ on_g3 j.watch)
+    (d1 : b1 ≡ locked_incr c) (d8 : b8 ≡ a8 c) (f1 : h1 ≡ g1 c) where
+  pub at_first : (b9 h12 : Bool) → j.count ≡ 0 → b9 ≡ a9 c → h12 ≡ g12 c
+      → (b1 && eqb (j.locked + 1) 1024) ∷ (waits c && eqb (j.waited + 1) 17) ∷ false ∷ false ∷ false ∷ false ∷ false ∷ b8 ∷ b9
+      ∷ h1 ∷ (over && g2w && request) ∷ (over && g3w) ∷ false ∷ false ∷ false ∷ false ∷ false ∷ false ∷ false ∷ false ∷ h12 ∷ []
+      ≡ map (charges j c) rules
+  unfolding charges
+  at_first b9 h12 e d9 f12 = rw (e1, e2, e3, e4, d1, d8, d9, f1, f12, eq-eqb j.count 0 e)
 
-module _ (j : Judge) (c : Cycle) where
-  pub alone_is : (run over request g2w g3w a8c g1c : Bool) (low high : ℕ)
-      → run ≡ locked_incr c → over ≡ handover c → request ≡ owners_request c → g2w ≡ on_g2 j.watch → g3w ≡ on_g3 j.watch → a8c ≡ a8 c → g1c ≡ g1 c
-      → low ≡ mask_of ((run && eqb (j.locked + 1) 1024) ∷ (waits c && eqb (j.waited + 1) 17) ∷ false ∷ false ∷ false ∷ [])
-      → high ≡ mask_of (a8c ∷ false ∷ g1c ∷ (over && g2w && request) ∷ (over && g3w) ∷ [])
-      → low + 128 * high ≡ alone j c
-  unfolding alone charges
-  alone_is run over request g2w g3w a8c g1c low high p q r s t u v l h = rw (l, h, p, q, r, s, t, u, v)
-
-  pub at_first : (x y : ℕ) → j.count ≡ 0 → x ≡ alone j c → y ≡ first c → x + y ≡ mask_of (map (charges j c) rules)
-  unfolding alone first charges mask_of
-  at_first x y e p q = rw (p, q, eq-eqb j.count 0 e) (omega arith)
-
-  pub later : (x y z : ℕ) (reached : Bool) → (j.count ≡ 0 → ⊥) → x ≡ alone j c → y ≡ compared j.previous c → z ≡ flag_of reached
-      → reached ≡ (after_decision j && some_master (reaches j c))
-      → x + y + 524288 * z ≡ mask_of (map (charges j c) rules)
-  unfolding alone compared charges mask_of
-  later x y z reached e p q r s = rw (p, q, r, s, ne_eqb j.count 0 e) (omega arith)
+  pub later : (b3 b4 b5 b6 b7 h4 h5 h6 h7 h8 h9 h10 h11 : Bool) → (j.count ≡ 0 → ⊥)
+      → b3 ≡ a3 j.previous c → b4 ≡ a4 j.previous c → b5 ≡ a5 j.previous c → b6 ≡ a6 j.previous c → b7 ≡ a7 j.previous c
+      → h4 ≡ g4 j.previous c → h5 ≡ g5 j.previous c → h6 ≡ g6 j.previous c → h7 ≡ g7 j.previous c → h8 ≡ g8 j.previous c → h9 ≡ g9 j.previous c → h10 ≡ g10 j.previous c
+      → h11 ≡ (after_decision j && some_master (reaches j c))
+      → (b1 && eqb (j.locked + 1) 1024) ∷ (waits c && eqb (j.waited + 1) 17) ∷ b3 ∷ b4 ∷ b5 ∷ b6 ∷ b7 ∷ b8 ∷ false
+      ∷ h1 ∷ (over && g2w && request) ∷ (over && g3w) ∷ h4 ∷ h5 ∷ h6 ∷ h7 ∷ h8 ∷ h9 ∷ h10 ∷ h11 ∷ false ∷ []
+      ≡ map (charges j c) rules
+  unfolding charges
+  later b3 b4 b5 b6 b7 h4 h5 h6 h7 h8 h9 h10 h11 e d3 d4 d5 d6 d7 f4 f5 f6 f7 f8 f9 f10 f11 =
+      rw (e1, e2, e3, e4, d1, d3, d4, d5, d6, d7, d8, f1, f4, f5, f6, f7, f8, f9, f10, f11, ne_eqb j.count 0 e)

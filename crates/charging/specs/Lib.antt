@@ -1,3 +1,2 @@
--- What the judge's charges lean on, and the groups in which they are found.
+-- What the judge's charges lean on.
 pub mod Ready
-pub mod Groups

@@ -12,11 +12,8 @@ fn beats(b: Burst) -> u32
     ensures { result ≡ columns.beats_of b }
 {
     match b {
-        Burst::Single => 0,
-        Burst::Unspecified => 0,
         Burst::Fixed(k) => k,
-        Burst::NotBuilt => 0,
-        Burst::NoCode => 0,
+        _ => 0,
     }
 }
 
@@ -149,20 +146,12 @@ pub fn g12(t: Cycle) -> bool
 pub fn on_g2(w: Watch) -> bool
     ensures { result ≡ on_g2 w }
 {
-    match w {
-        Watch::Nothing => false,
-        Watch::OnG2 => true,
-        Watch::OnG3(_) => false,
-    }
+    matches!(w, Watch::OnG2)
 }
 
 // More ready cycles are left than this one.
 pub fn on_g3(w: Watch) -> bool
     ensures { result ≡ on_g3 w }
 {
-    match w {
-        Watch::Nothing => false,
-        Watch::OnG2 => false,
-        Watch::OnG3(k) => 1 < k,
-    }
+    matches!(w, Watch::OnG3(k) if 1 < k)
 }

@@ -3,93 +3,67 @@
 
 mod flags;
 
-ghost use Rattle.std.specs.Prelude.{◌≡◌, ◌&&◌, [], ◌∷◌, map, ◌≤◌, ◌<◌};
-ghost use Rattle.rules.specs.Step.{flag_of};
+ghost use Rattle.std.specs.Prelude.{◌≡◌, ◌&&◌, map, ◌<◌};
 ghost use Rattle.rulebook.specs.Columns.{some_master};
 ghost use Rattle.rulebook.specs.Rules.{rules};
 ghost use Rattle.rulebook.specs.Charges.{after_decision, reaches, charges};
 ghost use Rattle.rulebook.specs.Named.{mask_of};
-ghost use Rattle.keeping.specs.Room.{Room};
-ghost use Rattle.charging.specs.Ready.{Fits, Ready};
-ghost use Rattle.charging.specs.Groups.{alone, first, compared};
+ghost use Rattle.charging.specs.Ready.{Ready};
 
+use keeping::columns;
 use rulebook::Judge;
 use rules::Cycle;
 
-fn flag(b: bool) -> u32
-    ensures { (result ≡ flag_of b) × (result ≤ 1) }
+// For each rule, in the order of the report, whether it is charged. At the first cycle there is no other to compare with it.
+// Stays: two lists, since one that asks at each rule whether the cycle is the first costs 526 instructions a line for 471, and 485 are allowed.
+fn charged(j: Judge, c: Cycle, reached: bool) -> [bool; 21]
+    requires { Ready j c × (reached ≡ (after_decision j && some_master (reaches j c))) }
+    ensures { result ≡ map (charges j c) rules }
 {
-    if b { 1 } else { 0 }
-}
-
-// The digits of five flags, lowest first, and of seven.
-fn five(a: bool, b: bool, c: bool, d: bool, e: bool) -> u32
-    ensures { (result ≡ mask_of (a ∷ b ∷ c ∷ d ∷ e ∷ [])) × (result < 32) }
-{
-    flag(a) + 2 * (flag(b) + 2 * (flag(c) + 2 * (flag(d) + 2 * flag(e))))
-}
-
-fn seven(a: bool, b: bool, c: bool, d: bool, e: bool, f: bool, g: bool) -> u32
-    ensures { (result ≡ mask_of (a ∷ b ∷ c ∷ d ∷ e ∷ f ∷ g ∷ [])) × (result < 128) }
-{
-    flag(a) + 2 * (flag(b) + 2 * five(c, d, e, f, g))
-}
-
-// A1, A2, A8, G1, G2, G3: they ask no cycle but this one, and what the judge keeps.
-fn charge_alone(j: Judge, c: Cycle) -> u32
-    requires { Room j }
-    ensures { (result ≡ alone j c) × (result < 4096) }
-{
-    let locked = j.locked + 1;
-    let waited = j.waited + 1;
-    let w = j.watch;
-    let run = keeping::columns::locked_incr(c);
-    let over = keeping::columns::handover(c);
-    let request = keeping::columns::owners_request(c);
-    let on_g2 = flags::on_g2(w);
-    let on_g3 = flags::on_g3(w);
+    let p = j.previous;
+    let over = columns::handover(c);
+    let a1 = columns::locked_incr(c) & (j.locked + 1 == 1024);
+    let a2 = !(c.inputs.hready == 1) & (j.waited + 1 == 17);
     let a8 = flags::a8(c);
     let g1 = flags::g1(c);
-    let low = five(
-        run & (locked == 1024),
-        !(c.inputs.hready == 1) & (waited == 17),
-        false,
-        false,
-        false,
-    );
-    let high = five(a8, false, g1, over & on_g2 & request, over & on_g3);
-    low + 128 * high
+    let g2 = over & flags::on_g2(j.watch) & columns::owners_request(c);
+    let g3 = over & flags::on_g3(j.watch);
+    if j.count == 0 {
+        let a9 = flags::a9(c);
+        let g12 = flags::g12(c);
+        [
+            a1, a2, false, false, false, false, false, a8, a9, g1, g2, g3, false, false, false,
+            false, false, false, false, false, g12,
+        ]
+    } else {
+        let a3 = flags::a3(p, c);
+        let a4 = flags::a4(p, c);
+        let a5 = flags::a5(p, c);
+        let a6 = flags::a6(p, c);
+        let a7 = flags::a7(p, c);
+        let g4 = flags::g4(p, c);
+        let g5 = flags::g5(p, c);
+        let g6 = flags::g6(p, c);
+        let g7 = flags::g7(p, c);
+        let g8 = flags::g8(p, c);
+        let g9 = flags::g9(p, c);
+        let g10 = flags::g10(p, c);
+        [
+            a1, a2, a3, a4, a5, a6, a7, a8, false, g1, g2, g3, g4, g5, g6, g7, g8, g9, g10,
+            reached, false,
+        ]
+    }
 }
 
-// A9 and G12: of the first cycle.
-fn charge_first(c: Cycle) -> u32
-    ensures { (result ≡ first c) × (result ≤ 1048832) }
+// The number whose binary digits are these flags, the lowest first.
+fn mask(flags: [bool; 21]) -> u32
+    ensures { (result ≡ mask_of flags) × (result < 2097152) }
 {
-    let a9 = flags::a9(c);
-    let g12 = flags::g12(c);
-    256 * flag(a9) + 1048576 * flag(g12)
-}
-
-// The rules that compare the previous cycle p with this one, t, but for G11.
-fn charge_compared(p: Cycle, t: Cycle) -> u32
-    requires { Fits p × Fits t }
-    ensures { (result ≡ compared p t) × (result < 524288) }
-{
-    let a3 = flags::a3(p, t);
-    let a4 = flags::a4(p, t);
-    let a5 = flags::a5(p, t);
-    let a6 = flags::a6(p, t);
-    let a7 = flags::a7(p, t);
-    let g4 = flags::g4(p, t);
-    let g5 = flags::g5(p, t);
-    let g6 = flags::g6(p, t);
-    let g7 = flags::g7(p, t);
-    let g8 = flags::g8(p, t);
-    let g9 = flags::g9(p, t);
-    let g10 = flags::g10(p, t);
-    let low = five(a3, a4, a5, a6, a7);
-    let high = seven(g4, g5, g6, g7, g8, g9, g10);
-    4 * low + 4096 * high
+    let mut mask = 0;
+    for &flag in flags.iter().rev() {
+        mask = 2 * mask + u32::from(flag);
+    }
+    mask
 }
 
 // The charges at a cycle, where reached says whether a lost count reached the limit.
@@ -97,10 +71,5 @@ pub fn charge_all(j: Judge, c: Cycle, reached: bool) -> u32
     requires { Ready j c × (reached ≡ (after_decision j && some_master (reaches j c))) }
     ensures { (result ≡ mask_of (map (charges j c) rules)) × (result < 2097152) }
 {
-    let now = charge_alone(j, c);
-    if j.count == 0 {
-        return now + charge_first(c);
-    }
-    let p = j.previous;
-    now + charge_compared(p, c) + 524288 * flag(reached)
+    mask(charged(j, c, reached))
 }

@@ -1,3 +1,4 @@
+pub mod Lost
 pub mod Digits
 pub mod Close
 pub mod Unique

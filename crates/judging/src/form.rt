@@ -1,44 +1,26 @@
 // The parts of the test of a well-formed judge.
 ghost use Rattle.std.specs.Prelude.{◌≡◌, not, ◌||◌, eqb};
+ghost use Rattle.std.specs.List.{list_any};
 ghost use Rattle.rulebook.specs.Columns.{some_master};
-ghost use Rattle.rulebook.specs.State.{is_good, wrong_count, some_count, watch_ok, no_watch, no_output, starts_out};
+ghost use Rattle.rulebook.specs.State.{wrong_count, some_count, watch_ok, no_watch, no_output, starts_out};
 
 use rulebook::{Judge, Watch};
-use rules::{Outputs, Refusal};
-
-pub fn is_good(c: Result<(), Refusal>) -> bool
-    ensures { result ≡ is_good c }
-{
-    match c {
-        Ok(()) => true,
-        Err(_) => false,
-    }
-}
+use rules::Outputs;
 
 pub fn some_wrong(n: u32, lost: [u32; 16]) -> bool
     ensures { result ≡ some_master (wrong_count n lost) }
 {
     let mut hit = false;
-    let mut i: u32 = 0;
-    while i < 16 {
-        let k = lost[i as usize];
-        hit = hit | ((n <= k) | ((n <= i) & !(k == 0)));
-        i += 1;
+    for (i, &k) in lost.iter().enumerate() {
+        hit |= (n <= k) | ((n as usize <= i) & (k != 0));
     }
     hit
 }
 
 fn some_lost(lost: [u32; 16]) -> bool
-    ensures { result ≡ some_master (some_count lost) }
+    ensures { result ≡ list_any (λ k. not (eqb k 0)) lost }
 {
-    let mut hit = false;
-    let mut i: u32 = 0;
-    while i < 16 {
-        let k = lost[i as usize];
-        hit = hit | !(k == 0);
-        i += 1;
-    }
-    hit
+    lost.iter().any(|&k| k != 0)
 }
 
 pub fn watch_ok(opened: bool, w: Watch) -> bool
@@ -54,36 +36,22 @@ pub fn watch_ok(opened: bool, w: Watch) -> bool
 fn no_watch(w: Watch) -> bool
     ensures { result ≡ no_watch w }
 {
-    match w {
-        Watch::Nothing => true,
-        Watch::OnG2 => false,
-        Watch::OnG3(_) => false,
-    }
+    matches!(w, Watch::Nothing)
 }
 
 fn no_output(o: Outputs) -> bool
     ensures { result ≡ no_output o }
 {
-    (o.hgrant == 0)
-        & (o.hmaster == 0)
-        & (o.hmastlock == 0)
-        & (o.decide == 0)
-        & (o.granted == 0)
-        & (o.busreq == 0)
+    o == Outputs::default()
 }
 
 fn starts_out(j: Judge) -> bool
     ensures { result ≡ starts_out j }
 {
-    let p = j.previous;
-    let x = p.inputs;
-    let o = p.outputs;
-    let w = j.watch;
-    let lost = j.lost;
-    let still = keeping::columns::no_input(x);
-    let dark = no_output(o);
-    let free = no_watch(w);
-    let some = some_lost(lost);
+    let still = keeping::columns::no_input(j.previous.inputs);
+    let dark = no_output(j.previous.outputs);
+    let free = no_watch(j.watch);
+    let some = some_lost(j.lost);
     still & dark & (j.locked == 0) & (j.waited == 0) & !j.opened & free & !some
 }
 

@@ -6,51 +6,27 @@ mod form;
 ghost use Rattle.std.specs.Prelude.{◌≡◌, true, ◌<◌};
 ghost use Rattle.rules.specs.Codes.{most_cycles};
 ghost use Rattle.rules.specs.Valid.{cycle_check};
-ghost use Rattle.rulebook.specs.State.{no_cycle, start_judge, start_of, well_formed};
+ghost use Rattle.rulebook.specs.State.{start_judge, start_of, well_formed};
 ghost use Rattle.rulebook.specs.Named.{flags_in};
 ghost use Rattle.rulebook.specs.Step.{refused_of, taken_of, checked_of, judge_of};
 ghost use Rattle.charging.specs.Ready.{Ready};
 ghost use Rattle.judging.specs.Ruled.{ruled_of};
 
 use rulebook::{Judge, Judgement, Started, Watch};
-use rules::{Cycle, Inputs, Outputs, Refusal};
-
-fn no_cycle() -> Cycle
-    ensures { result ≡ no_cycle }
-{
-    Cycle {
-        inputs: Inputs {
-            hbusreq: 0,
-            hlock: 0,
-            hready: 0,
-            htrans: 0,
-            hburst: 0,
-        },
-        outputs: Outputs {
-            hgrant: 0,
-            hmaster: 0,
-            hmastlock: 0,
-            decide: 0,
-            granted: 0,
-            busreq: 0,
-        },
-    }
-}
+use rules::{Cycle, Refusal};
 
 fn start_judge(n: u32) -> Judge
     ensures { result ≡ start_judge n }
 {
-    let previous = no_cycle();
-    let lost = [0; 16];
     Judge {
         n,
         count: 0,
-        previous,
+        previous: Cycle::default(),
         locked: 0,
         waited: 0,
         opened: false,
         watch: Watch::Nothing,
-        lost,
+        lost: [0; 16],
     }
 }
 
@@ -75,13 +51,9 @@ pub fn start(n: u32) -> Started
 pub fn well_formed(j: Judge) -> bool
     ensures { result ≡ well_formed j }
 {
-    let p = j.previous;
-    let w = j.watch;
-    let lost = j.lost;
-    let check = signals::check_cycle(j.n, p);
-    let good = form::is_good(check);
-    let wrong = form::some_wrong(j.n, lost);
-    let watch = form::watch_ok(j.opened, w);
+    let good = signals::check_cycle(j.n, j.previous).is_ok();
+    let wrong = form::some_wrong(j.n, j.lost);
+    let watch = form::watch_ok(j.opened, j.watch);
     let start = form::start_ok(j);
     (2 <= j.n)
         & (j.n <= 16)
@@ -95,6 +67,7 @@ pub fn well_formed(j: Judge) -> bool
 }
 
 // The answer of a step with its charges as one number: bit i is that of the i-th rule, in the order of the report.
+// Stays: a verdict beside the judge, as in `Judgement`.
 #[derive(Clone, Copy)]
 pub struct Ruled {
     pub judge: Judge,
@@ -118,12 +91,10 @@ fn take(j: Judge, c: Cycle) -> Ruled
     ensures { result ≡ ruled_of (taken_of j c) }
 {
     let kept = keeping::keep(j, c);
-    let judge = kept.judge;
-    let mask = charging::charge_all(j, c, kept.reached);
     Ruled {
-        judge,
+        judge: kept.judge,
         verdict: Ok(()),
-        mask,
+        mask: charging::charge_all(j, c, kept.reached),
     }
 }
 
@@ -151,25 +122,17 @@ pub fn rule(j: Judge, c: Cycle) -> Ruled
     checked(j, c)
 }
 
-// For each rule, in the order of the report, whether it is charged.
-#[derive(Clone, Copy)]
-struct Charges {
-    of: [bool; 21],
-}
-
 // The digits of a number as flags.
-fn flags_in(number: u32) -> Charges
-    ensures { result.of ≡ flags_in 21 number }
+fn flags_in(number: u32) -> [bool; 21]
+    ensures { result ≡ flags_in 21 number }
 {
-    let mut charges = Charges { of: [false; 21] };
+    let mut flags = [false; 21];
     let mut m = number;
-    let mut i: usize = 0;
-    while i < 21 {
-        charges.of[i] = m % 2 == 1;
-        m = m / 2;
-        i += 1;
+    for flag in flags.iter_mut() {
+        *flag = m % 2 == 1;
+        m /= 2;
     }
-    charges
+    flags
 }
 
 // The same cycle with a flag for each rule.
@@ -177,13 +140,10 @@ pub fn step(j: Judge, c: Cycle) -> Judgement
     ensures { result ≡ judge_of j c }
 {
     let ruled = rule(j, c);
-    let judge = ruled.judge;
-    let verdict = ruled.verdict;
-    let all = flags_in(ruled.mask);
-    let charged = all.of;
+    let charged = flags_in(ruled.mask);
     Judgement {
-        judge,
-        verdict,
+        judge: ruled.judge,
+        verdict: ruled.verdict,
         charged,
     }
 }

@@ -4,6 +4,7 @@
 --   high_without == a bit of the mask of those in a and not in b
 --   masks_differ == two masks below 2 ^ k differ where some bit below k does
 --   some_common  == some master is in both masks: a & b is not 0
+--   some_first   == some number below k + 1: 0, or one after it
 --   some_outside == some master is in a and not in b: a & b is not a
 use Prim.Native.Nat.{ℕ, zero, suc, ◌+◌, ◌*◌, ◌/◌, ◌%◌, ◌^◌, ◌<◌, min, max}
 use mathlib.Core.Path.{◌≡◌, refl, sym, ◌∙◌, ap, fun_ext}
@@ -82,7 +83,7 @@ or_none_lem : (a : Bool) → a ≡ (a || false)
 or_none_lem true = refl
 or_none_lem false = refl
 
-some_first : (k : ℕ) (f : ℕ → Bool) → some_below (suc k) f ≡ (f 0 || some_below k (λ i. f (suc i)))
+pub some_first : (k : ℕ) (f : ℕ → Bool) → some_below (suc k) f ≡ (f 0 || some_below k (λ i. f (suc i)))
 unfolding some_below
 some_first zero f = or_none_lem (f 0)
 some_first (suc k) f = rw (some_first k f) (or_assoc (f 0) (some_below k (λ i. f (suc i))) (f (suc k)))

@@ -9,7 +9,7 @@ use rules::{Burst, Cycle, Inputs};
 pub fn no_input(x: Inputs) -> bool
     ensures { result ≡ book.no_input x }
 {
-    (x.hbusreq == 0) & (x.hlock == 0) & (x.hready == 0) & (x.htrans == 0) & (x.hburst == 0)
+    x == Inputs::default()
 }
 
 pub fn owners_request(c: Cycle) -> bool
@@ -33,13 +33,7 @@ pub fn opens(c: Cycle) -> bool
 fn unspecified(b: Burst) -> bool
     ensures { result ≡ columns.unspecified b }
 {
-    match b {
-        Burst::Single => false,
-        Burst::Unspecified => true,
-        Burst::Fixed(_) => false,
-        Burst::NotBuilt => false,
-        Burst::NoCode => false,
-    }
+    matches!(b, Burst::Unspecified)
 }
 
 pub fn locked_incr(c: Cycle) -> bool

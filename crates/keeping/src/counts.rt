@@ -13,8 +13,8 @@ pub fn longer(k: u32, f: bool, r: u32) -> u32
     ensures { result ≡ longer_of k f r }
 {
     let more = r + 1;
-    let kept = signals::pick_number(more == k, 0, more);
-    signals::pick_number(f, kept, 0)
+    let kept = signals::pick(more == k, 0, more);
+    signals::pick(f, kept, 0)
 }
 
 // The masters that asked and have no grant.
@@ -37,17 +37,13 @@ pub fn count_lost(j: Judge, requests: u32, grants: u32) -> Counted
     ensures { (result.judge ≡ with_lost j (list_from 0 most_masters (count_by j.n requests grants j.lost))) × (result.reached ≡ some_master (reaches_by j.n requests grants j.lost)) }
 {
     let n = j.n;
-    let old = j.lost;
     let mask = losers(requests, grants);
     let mut next = j;
     let mut reached = false;
-    let mut i: u32 = 0;
-    while i < 16 {
-        let lost = old[i as usize];
+    for (i, &lost) in j.lost.iter().enumerate() {
         let more = (mask >> i) % 2 == 1;
-        reached = reached | (more & (lost + 1 == n));
-        next.lost[i as usize] = longer(n, more, lost);
-        i += 1;
+        reached |= more & (lost + 1 == n);
+        next.lost[i] = longer(n, more, lost);
     }
     Counted {
         judge: next,

@@ -1,39 +1,24 @@
 // The watch of an access: what its opening starts, and what a later cycle leaves of it.
-ghost use Rattle.std.specs.Prelude.{◌≡◌, cond, ◌-◌};
+ghost use Rattle.std.specs.Prelude.{◌≡◌};
 ghost use Rattle.rulebook.specs.Charges.{g3_with, burst_watch, opening_watch, later_watch, opened_after, watch_after};
 
 use crate::columns;
 use rulebook::{Judge, Watch};
 use rules::{Burst, Cycle};
 
-fn pick_watch(d: bool, a: Watch, b: Watch) -> Watch
-    ensures { result ≡ cond d a b }
-{
-    if d { a } else { b }
-}
-
-// One less, and 0 where there is none.
-fn one_less(k: u32) -> u32
-    ensures { result ≡ k - 1 }
-{
-    if k == 0 { 0 } else { k - 1 }
-}
-
 fn g3_with(k: u32) -> Watch
     ensures { result ≡ g3_with k }
 {
-    pick_watch(k == 0, Watch::Nothing, Watch::OnG3(k))
+    signals::pick(k == 0, Watch::Nothing, Watch::OnG3(k))
 }
 
 fn burst_watch(b: Burst) -> Watch
     ensures { result ≡ burst_watch b }
 {
     match b {
-        Burst::Single => Watch::Nothing,
         Burst::Unspecified => Watch::OnG2,
-        Burst::Fixed(k) => g3_with(one_less(k)),
-        Burst::NotBuilt => Watch::Nothing,
-        Burst::NoCode => Watch::Nothing,
+        Burst::Fixed(k) => g3_with(k.saturating_sub(1)),
+        _ => Watch::Nothing,
     }
 }
 
@@ -42,7 +27,7 @@ fn opening_watch(c: Cycle) -> Watch
 {
     let sort = signals::burst(c.inputs.hburst);
     let watch = burst_watch(sort);
-    pick_watch(
+    signals::pick(
         !(c.outputs.granted == 1) & (c.outputs.hmastlock == 1),
         watch,
         Watch::Nothing,
@@ -56,11 +41,11 @@ fn later_watch(w: Watch, c: Cycle) -> Watch
         Watch::Nothing => Watch::Nothing,
         Watch::OnG2 => {
             let request = columns::owners_request(c);
-            pick_watch(request, Watch::OnG2, Watch::Nothing)
+            signals::pick(request, Watch::OnG2, Watch::Nothing)
         }
         Watch::OnG3(k) => {
-            let less = g3_with(one_less(k));
-            pick_watch(c.inputs.hready == 1, less, Watch::OnG3(k))
+            let less = g3_with(k.saturating_sub(1));
+            signals::pick(c.inputs.hready == 1, less, Watch::OnG3(k))
         }
     }
 }
@@ -70,7 +55,7 @@ pub fn opened_after(j: Judge, c: Cycle) -> bool
 {
     let over = columns::handover(c);
     let opens = columns::opens(c);
-    signals::pick_flag(over, false, j.opened | opens)
+    signals::pick(over, false, j.opened | opens)
 }
 
 pub fn watch_after(j: Judge, c: Cycle) -> Watch
@@ -81,7 +66,7 @@ pub fn watch_after(j: Judge, c: Cycle) -> Watch
     let opens = columns::opens(c);
     let on = later_watch(w, c);
     let from = opening_watch(c);
-    let first = pick_watch(opens, from, Watch::Nothing);
-    let later = pick_watch(j.opened, on, first);
-    pick_watch(over, Watch::Nothing, later)
+    let first = signals::pick(opens, from, Watch::Nothing);
+    let later = signals::pick(j.opened, on, first);
+    signals::pick(over, Watch::Nothing, later)
 }

@@ -51,7 +51,8 @@ pub struct Judge {
     pub lost: [u32; 16],
 }
 
-// The answer of a start: the judge stands beside the verdict, since no enum holds an array.
+// The answer of a start.
+// Stays: the judge of no masters beside refusal 1 is promised too (`wanted` in specs/Refused.antt), and `streaming` begins with it.
 #[derive(Clone, Copy)]
 pub struct Started {
     pub judge: Judge,
@@ -59,6 +60,7 @@ pub struct Started {
 }
 
 // The answer of a step: the new state, the verdict, and for each rule, in the order of the report, whether it is charged.
+// Stays: the judge comes back with either verdict, so both variants of a Result would hold it; the promises name these three fields.
 #[derive(Clone, Copy)]
 pub struct Judgement {
     pub judge: Judge,

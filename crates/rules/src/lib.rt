@@ -1,10 +1,13 @@
 // The types of document 01. What each of its sentences means stands in specs/, over these.
 #![tactic(auto)]
 
+ghost use Rattle.std.specs.Prelude.{◌≡◌};
+ghost use Rattle.rules.specs.Refusals.{number_of};
+
 // The refusals, in the order of their numbers, 1 to 14.
 #[derive(Clone, Copy)]
 pub enum Refusal {
-    Masters,
+    Masters = 1,
     Header,
     Shape,
     Value,
@@ -18,6 +21,15 @@ pub enum Refusal {
     Dump,
     Time,
     Variable,
+}
+
+// The number of a refusal.
+impl From<Refusal> for u32 {
+    ghost from_gives = { λ r k. k ≡ number_of r };
+
+    fn from(r: Refusal) -> u32 {
+        r as u32
+    }
 }
 
 // The sorts of burst codes. A fixed burst carries its number of beats.
@@ -52,7 +64,8 @@ pub struct State {
 }
 
 // What the masters and the slave drive in a cycle, as the page's five columns.
-#[derive(Clone, Copy)]
+// Stays: numbers, here and in Outputs, since a column may hold what no flag, code or mask is, which refusal 4 answers.
+#[derive(Clone, Copy, Default, PartialEq, Eq)]
 pub struct Inputs {
     pub hbusreq: u32,
     pub hlock: u32,
@@ -62,7 +75,7 @@ pub struct Inputs {
 }
 
 // What the arbiter drives in a cycle, as the page's six columns. A flag is 0 or 1.
-#[derive(Clone, Copy)]
+#[derive(Clone, Copy, Default, PartialEq, Eq)]
 pub struct Outputs {
     pub hgrant: u32,
     pub hmaster: u32,
@@ -73,7 +86,7 @@ pub struct Outputs {
 }
 
 // A recorded cycle: the eleven columns of a trace line.
-#[derive(Clone, Copy)]
+#[derive(Clone, Copy, Default, PartialEq, Eq)]
 pub struct Cycle {
     pub inputs: Inputs,
     pub outputs: Outputs,

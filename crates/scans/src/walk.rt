@@ -65,7 +65,7 @@ fn bits_in(width: usize, s: &[u8], p: usize) -> u32
         i += 1;
         left -= 1;
     }
-    signals::pick_number(good, v, top)
+    signals::pick(good, v, top)
 }
 
 // The value of the variable in the line at p.

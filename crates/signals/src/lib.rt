@@ -13,25 +13,11 @@ use rules::{Burst, Cycle, Inputs, Outputs, Refusal};
 pub fn number(r: Refusal) -> u32
     ensures { result ≡ number_of r }
 {
-    match r {
-        Refusal::Masters => 1,
-        Refusal::Header => 2,
-        Refusal::Shape => 3,
-        Refusal::Value => 4,
-        Refusal::NotBuilt => 5,
-        Refusal::Absent => 6,
-        Refusal::Owner => 7,
-        Refusal::Full => 8,
-        Refusal::Short => 9,
-        Refusal::State => 10,
-        Refusal::Nobody => 11,
-        Refusal::Dump => 12,
-        Refusal::Time => 13,
-        Refusal::Variable => 14,
-    }
+    u32::from(r)
 }
 
 // The sort of a burst code, in one place.
+// Stays: document 01 asks for one match over the code, with ranges.
 pub fn burst(code: u32) -> Burst
     ensures { result ≡ burst_of code }
 {
@@ -47,25 +33,13 @@ pub fn burst(code: u32) -> Burst
 fn no_code(b: Burst) -> bool
     ensures { result ≡ no_code b }
 {
-    match b {
-        Burst::Single => false,
-        Burst::Unspecified => false,
-        Burst::Fixed(_) => false,
-        Burst::NotBuilt => false,
-        Burst::NoCode => true,
-    }
+    matches!(b, Burst::NoCode)
 }
 
 fn not_built(b: Burst) -> bool
     ensures { result ≡ not_built b }
 {
-    match b {
-        Burst::Single => false,
-        Burst::Unspecified => false,
-        Burst::Fixed(_) => false,
-        Burst::NotBuilt => true,
-        Burst::NoCode => false,
-    }
+    matches!(b, Burst::NotBuilt)
 }
 
 // The bit of master i.
@@ -90,20 +64,8 @@ pub fn names_absent(n: u32, m: u32) -> bool
     (n < 32) & (top <= m)
 }
 
-// A choice between two numbers, or two flags, with no branch in the caller.
-pub fn pick_number(d: bool, a: u32, b: u32) -> u32
-    ensures { result ≡ cond d a b }
-{
-    if d { a } else { b }
-}
-
-pub fn pick_flag(d: bool, a: bool, b: bool) -> bool
-    ensures { result ≡ cond d a b }
-{
-    if d { a } else { b }
-}
-
-fn pick_check(d: bool, a: Result<(), Refusal>, b: Result<(), Refusal>) -> Result<(), Refusal>
+// A choice between two values, with no branch in the caller.
+pub fn pick<T: Copy>(d: bool, a: T, b: T) -> T
     ensures { result ≡ cond d a b }
 {
     if d { a } else { b }
@@ -113,10 +75,10 @@ fn pick_check(d: bool, a: Result<(), Refusal>, b: Result<(), Refusal>) -> Result
 fn first(value: bool, unbuilt: bool, absent: bool, owner: bool) -> Result<(), Refusal>
     ensures { result ≡ first_of value unbuilt absent owner }
 {
-    let at7 = pick_check(owner, Err(Refusal::Owner), Ok(()));
-    let at6 = pick_check(absent, Err(Refusal::Absent), at7);
-    let at5 = pick_check(unbuilt, Err(Refusal::NotBuilt), at6);
-    pick_check(value, Err(Refusal::Value), at5)
+    let at7 = pick(owner, Err(Refusal::Owner), Ok(()));
+    let at6 = pick(absent, Err(Refusal::Absent), at7);
+    let at5 = pick(unbuilt, Err(Refusal::NotBuilt), at6);
+    pick(value, Err(Refusal::Value), at5)
 }
 
 fn inputs_too_large(x: Inputs) -> bool

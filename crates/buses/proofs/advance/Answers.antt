@@ -3,8 +3,8 @@ use Rattle.buses.proofs.Step.{due, stepped}
 use borrow.Author.Rules.{rules}
 use Rattle.buses.proofs.advance.Goals as goal
 
-pub cycle-turn-requires : goal.cycle-turn-requires
-cycle-turn-requires c = search due
+pub invariant_of-now-clause-due : goal.invariant_of-now-clause-due
+invariant_of-now-clause-due c = search due
 
 pub returns : goal.returns
 returns c = (search stepped, search rules)

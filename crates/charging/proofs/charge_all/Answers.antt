@@ -1,10 +1,7 @@
--- `charge_all` meets its contract: the first cycle, and any other.
-use native.Mathlib.Omega.{arith}
-use Rattle.charging.proofs.Order.{at_first, later}
+-- `charge_all` meets its contract: the number of the flags.
+use mathlib.Core.Path.{◌∙◌, ap}
+use Rattle.rulebook.specs.Named.{mask_of}
 use Rattle.charging.proofs.charge_all.Goals as goal
 
-pub returns-then-j-eq0 : goal.returns-then-j-eq0
-returns-then-j-eq0 c = (search at_first, omega arith)
-
 pub returns : goal.returns
-returns c = (search later, omega arith)
+returns c = (c.mask.ensures.0 ∙ ap mask_of c.charged.ensures, c.mask.ensures.1)

@@ -1,10 +1,6 @@
--- `flags_in` meets its contract. The loop's invariant: the digits below i are stored. The measure: the digits left.
-use Prim.Native.Nat.{◌-◌}
+-- `flags_in` meets its contract. The loop's invariant: the digits below i are stored.
 use Rattle.judging.proofs.Digits.{Spread}
 use Rattle.judging.proofs.flags_in.Given as goal
 
-abbrev pub invariant-loop-i : goal.invariant-loop-i
-invariant-loop-i l = Spread l.number l.m l.i l.charges.of
-
-abbrev pub decreases-loop-i : goal.decreases-loop-i
-decreases-loop-i l = 21 - l.i
+abbrev pub invariant-loop-flag : goal.invariant-loop-flag
+invariant-loop-flag l = Spread l.number l.m l.flag-index l.flag-items

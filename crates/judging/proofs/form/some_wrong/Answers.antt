@@ -1,4 +1,4 @@
--- `some_wrong` meets its contract. Invariant: whether some master below i has a wrong count. Measure: the masters left.
+-- `some_wrong` meets its contract. Invariant: whether some master below i has a wrong count.
 use mathlib.Core.Path.{refl}
 use native.Mathlib.Omega.{arith}
 use Rattle.rulebook.specs.Columns.{some_below}

@@ -1,6 +1,6 @@
 -- `fresh` meets its contract.
 use Rattle.buses.proofs.Bursts.{fresh_runs}
-use Rattle.buses.proofs.course.fresh.Goals as goal
+use Rattle.buses.proofs.turn.Now.fresh.Goals as goal
 
 pub returns : goal.returns
 returns c = search fresh_runs

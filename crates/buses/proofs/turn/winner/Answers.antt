@@ -1,0 +1,6 @@
+-- `winner` meets its contract: where some bit is high, the walk ends at a master.
+use Rattle.buses.proofs.Decision.{some_winner}
+use Rattle.buses.proofs.turn.winner.Goals as goal
+
+pub unwrap-requires : goal.unwrap-requires
+unwrap-requires c = search some_winner
