@@ -10,7 +10,6 @@
 --   part_rest, nothing_after == a slice that starts later, as a call is lent it, is the whole rest
 --   number_part     == the number in such a slice
 --   number_below    == w bytes write a number below 256 ^ w
---   eight_read, eight_bytes == the ends of `eight` and `put_eight`
 use Prim.Native.Nat.{ℕ, zero, suc, ◌+◌, ◌-◌, ◌*◌, ◌/◌, ◌%◌, ◌^◌, ◌≤◌, ◌<◌}
 use mathlib.Core.Path.{◌≡◌, refl, sym, ◌∙◌}
 use mathlib.Core.List.{List, [], ◌∷◌}
@@ -86,28 +85,3 @@ number_part w k b p = rw (part_rest k b) (number_shift w k b p)
 pub number_below : (w : ℕ) (b : List ℕ) (p : ℕ) → Bytes b → number_low w b p < 256 ^ w
 number_below zero b p h = omega arith
 number_below (suc w) b p h = omega (arith, h.below p, number_below w b (p + 1) h)
-
--- what `eight` returns
-pub eight_read : (b : List ℕ) (low high : ℕ) → low ≡ number_low 4 b 0 → high ≡ number_low 4 (take (length b - 4) (drop 4 b)) 0 → low + high * 4294967296 ≡ number_low 8 b 0
-eight_read b low high e f = let g : high ≡ number_low 4 b 4 = f ∙ number_part 4 4 b 0 in omega arith
-
--- the bytes that `put_eight` writes
-pub eight_bytes : (v : ℕ) → v < 2 ^ 64
-    → v % 256
-    ∷ v / 256 % 256
-    ∷ v / 65536 % 256
-    ∷ v / 16777216 % 256
-    ∷ v / 4294967296 % 256
-    ∷ v / 1099511627776 % 256
-    ∷ v / 281474976710656 % 256
-    ∷ v / 72057594037927936
-    ∷ []
-    ≡ low_first 8 v
-eight_bytes v h =
-    let e2 : v / 256 / 256 ≡ v / 65536 = omega arith in
-    let e3 : v / 65536 / 256 ≡ v / 16777216 = omega arith in
-    let e4 : v / 16777216 / 256 ≡ v / 4294967296 = omega arith in
-    let e5 : v / 4294967296 / 256 ≡ v / 1099511627776 = omega arith in
-    let e6 : v / 1099511627776 / 256 ≡ v / 281474976710656 = omega arith in
-    let e7 : v / 281474976710656 / 256 % 256 ≡ v / 72057594037927936 = omega arith in
-    simp (e2, e3, e4, e5, e6, e7)
