@@ -10,7 +10,7 @@
 --   judge_after r buffer, broken_after r buffer == the two buffers after a step
 --   judge_start n judge == what a start over the lent bytes comes to; start_after gives the buffer afterwards
 --   JudgeStepCall, JudgeStartCall == the contracts of the two calls
-use Rattle.std.specs.Prelude.{ℕ, ◌≡◌, cond, List, ◌++◌, ltb, length, drop, Err, Ok}
+use Rattle.std.specs.Prelude.{ℕ, ◌≡◌, cond, List, ◌++◌, Option, Some, None, Err, Ok, ltb, length, drop}
 use Rattle.rules.specs.declared.Refusal.{Refusal}
 use Rattle.rules.specs.declared.Refusal.TheVariants.{Short, State as StateRefusal}
 use Rattle.rules.specs.declared.Cycle.{Cycle}
@@ -23,7 +23,7 @@ use Rattle.rulebook.specs.State.{start_judge, start_of}
 use Rattle.rulebook.specs.Named.{mask_of}
 use Rattle.rulebook.specs.Step.{number_of, judge_of}
 use Rattle.words.specs.Words.{low_first}
-use Rattle.docketing.specs.Bytes.{judge_size, judge_bytes, Docket, known, unknown, bytes_judge}
+use Rattle.docketing.specs.Bytes.{judge_size, judge_bytes, bytes_judge}
 
 -- HBUSREQ, HLOCK, HREADY, HTRANS, HBURST, HGRANT, HMASTER, HMASTLOCK, DECIDE, GRANTED, BUSREQ
 abbrev pub recorded : ℕ → ℕ → ℕ → ℕ → ℕ → ℕ → ℕ → ℕ → ℕ → ℕ → ℕ → Cycle
@@ -50,9 +50,9 @@ abbrev pub ruling_of : Judgement → Ruling
 ruling_of a = ruled_by a.verdict a
 
 -- 10 where the bytes are no judge; else as a step of that judge, which gives 10 where it is not well formed
-unfoldable pub of_docket : Docket → Cycle → Ruling
-of_docket (known j) c = ruling_of (judge_of j c)
-of_docket unknown c = refused StateRefusal
+unfoldable pub of_docket : Option Judge → Cycle → Ruling
+of_docket (Some j) c = ruling_of (judge_of j c)
+of_docket None c = refused StateRefusal
 
 unfoldable pub judge_step : List ℕ → List ℕ → Cycle → Ruling
 judge_step judge broken c =
