@@ -1,10 +1,9 @@
 -- A judge, written as its bytes, over plain lists.
 --
---   low_four   == the four bytes of a number
 --   flag_is    == a flag as a byte
 --   lost_is    == the low bytes of the lost counts are the counts
 --   all_stored == the four parts, one behind the other, are the bytes of a judge
-use Prim.Native.Nat.{ℕ, ◌/◌, ◌%◌, ◌<◌}
+use Prim.Native.Nat.{ℕ, ◌%◌, ◌<◌}
 use mathlib.Core.Path.{◌≡◌, refl}
 use mathlib.Core.Bool.{Bool, true, false}
 use mathlib.Core.List.{List, ◌++◌}
@@ -12,20 +11,13 @@ use native.Mathlib.Omega.{arith}
 use borrow.Rule.Slice.PartMut.{post_of, put_mid}
 use lib.ListN.{length, get_or}
 use lib.Seq.{drop-drop}
-use Rattle.std.specs.Int.{w32, from_bool, to_le_bytes}
+use Rattle.std.specs.Int.{from_bool}
 use Rattle.std.proofs.lemmas.Grind.{same_number_lists}
 use Rattle.rules.specs.Step.{flag_of}
 use Rattle.rulebook.specs.declared.Judge.{Judge}
-use Rattle.words.specs.Words.{low_first}
 use Rattle.docketing.specs.Bytes.{head_of, head_bytes, input_bytes, output_bytes, cycle_bytes, judge_bytes}
 use Rattle.docketing.specs.Fits.{Low}
 use Rattle.docketing.specs.Calls.{judge_stored}
-
-pub low_four : (v : ℕ) → to_le_bytes w32 v ≡ low_first 4 v
-low_four v =
-    let second : v / 65536 ≡ v / 256 / 256 = omega arith in
-    let third : v / 16777216 ≡ v / 256 / 256 / 256 = omega arith in
-    simp (second, third)
 
 pub flag_is : (b : Bool) → from_bool b ≡ flag_of b
 flag_is true = refl

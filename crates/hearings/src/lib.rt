@@ -13,9 +13,9 @@ use rules::Cycle;
 pub fn start(n: u32, judge: &mut [u8]) -> u32
     ensures { JudgeStartCall n judge.old result judge.new }
 {
-    if judge.len() < 42 {
+    let Some(judge) = judge.first_chunk_mut() else {
         return 9;
-    }
+    };
     let started = judging::start(n);
     let first = started.judge;
     let verdict = started.verdict;
@@ -29,8 +29,8 @@ pub fn start(n: u32, judge: &mut [u8]) -> u32
 }
 
 // A cycle of the judge that the bytes write: its number, and the bytes of what follows.
-fn settle(j: Judge, c: Cycle, judge: &mut [u8], broken: &mut [u8]) -> u32
-    requires { (length j.lost ≡ most_masters) × (42 ≤ length judge.old) × (4 ≤ length broken.old) }
+fn settle(j: Judge, c: Cycle, judge: &mut [u8; 42], broken: &mut [u8; 4]) -> u32
+    requires { length j.lost ≡ most_masters }
     ensures { (result ≡ judge_number (ruling_of (judge_of j c))) × (judge.new ≡ judge_after (ruling_of (judge_of j c)) judge.old) × (broken.new ≡ broken_after (ruling_of (judge_of j c)) broken.old) }
 {
     let ruled = judging::rule(j, c);
@@ -50,16 +50,14 @@ fn settle(j: Judge, c: Cycle, judge: &mut [u8], broken: &mut [u8]) -> u32
 pub fn step(c: Cycle, judge: &mut [u8], broken: &mut [u8]) -> u32
     ensures { JudgeStepCall c judge.old broken.old result judge.new broken.new }
 {
-    if judge.len() < 42 {
+    let Some(judge) = judge.first_chunk_mut() else {
         return 9;
-    }
-    if broken.len() < 4 {
+    };
+    let Some(broken) = broken.first_chunk_mut() else {
         return 9;
-    }
-    let docket = dockets::see(judge);
-    if !docket.known {
+    };
+    let Some(j) = dockets::see(judge) else {
         return 10;
-    }
-    let j = docket.judge;
+    };
     settle(j, c, judge, broken)
 }

@@ -10,13 +10,15 @@
 --   part_rest, nothing_after == a slice that starts later, as a call is lent it, is the whole rest
 --   number_part     == the number in such a slice
 --   number_below    == w bytes write a number below 256 ^ w
-use Prim.Native.Nat.{ℕ, zero, suc, ◌+◌, ◌-◌, ◌*◌, ◌/◌, ◌%◌, ◌^◌, ◌≤◌, ◌<◌}
+--   low_four, four_read == the four bytes of a number, and the number of four bytes, as the library has them
+use Prim.Native.Nat.{ℕ, zero, suc, ◌+◌, ◌-◌, ◌/◌, ◌%◌, ◌^◌, ◌≤◌, ◌<◌}
 use mathlib.Core.Path.{◌≡◌, refl, sym, ◌∙◌}
 use mathlib.Core.List.{List, [], ◌∷◌}
 use native.Mathlib.Omega.{arith}
 use native.Mathlib.Numerals.{add-one}
 use lib.ListN.{length, get_or, take, drop, length-drop, drop_of_length-le}
 use lib.Seq.{drop-cons, take_all, get_or-drop}
+use Rattle.std.specs.Int.{w32, to_le_bytes, from_le_bytes}
 use Rattle.words.specs.Words.{low_first, number_low}
 
 -- a list of bytes: what a lent slice holds
@@ -85,3 +87,12 @@ number_part w k b p = rw (part_rest k b) (number_shift w k b p)
 pub number_below : (w : ℕ) (b : List ℕ) (p : ℕ) → Bytes b → number_low w b p < 256 ^ w
 number_below zero b p h = omega arith
 number_below (suc w) b p h = omega (arith, h.below p, number_below w b (p + 1) h)
+
+pub low_four : (v : ℕ) → to_le_bytes w32 v ≡ low_first 4 v
+low_four v =
+    let second : v / 65536 ≡ v / 256 / 256 = omega arith in
+    let third : v / 16777216 ≡ v / 256 / 256 / 256 = omega arith in
+    simp (second, third)
+
+pub four_read : (b : List ℕ) (p : ℕ) → from_le_bytes w32 (slots b p 4) ≡ number_low 4 b p
+four_read b p = omega arith

@@ -1,6 +1,7 @@
 -- `head_bytes` meets its contract.
+use Rattle.words.proofs.Words.{low_four}
 use Rattle.docketing.specs.Bytes.{head_of}
-use Rattle.entries.proofs.Stored.{flag_is, low_four}
+use Rattle.entries.proofs.Stored.{flag_is}
 use Rattle.entries.proofs.parts.head_bytes.Goals as goal
 
 pub returns : goal.returns
