@@ -4,15 +4,16 @@
 mod parts;
 
 ghost use Rattle.std.specs.Prelude.{◌≡◌};
+ghost use Rattle.words.specs.Words.{low_first};
+ghost use Rattle.docketing.specs.Bytes.{judge_bytes};
 ghost use Rattle.docketing.specs.Fits.{JudgeFits};
-ghost use Rattle.docketing.specs.Calls.{judge_stored, mask_stored};
 
 use rulebook::Judge;
 
 // Writes the bytes of a judge.
 pub fn put(j: Judge, b: &mut [u8; 42])
     requires { JudgeFits j }
-    ensures { b.new ≡ judge_stored j b.old }
+    ensures { b.new ≡ judge_bytes j }
 {
     b[..12].copy_from_slice(&parts::head_bytes(j));
     b[12..19].copy_from_slice(&parts::input_bytes(j.previous.inputs));
@@ -21,9 +22,8 @@ pub fn put(j: Judge, b: &mut [u8; 42])
 }
 
 // Writes a mask, low byte first.
-#[tactic(auto, unfolding(docketing::specs::Calls::mask_stored))]
 pub fn put_mask(m: u32, b: &mut [u8; 4])
-    ensures { b.new ≡ mask_stored m b.old }
+    ensures { b.new ≡ low_first 4 m }
 {
     *b = m.to_le_bytes();
 }

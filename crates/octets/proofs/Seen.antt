@@ -1,7 +1,6 @@
 -- What lent bytes hold: l, a, p and k are the bytes of HMASTLOCK, GRANTED, the phase and k, and v is the number of the four.
 --
 --   unsound, seen    == what is seen of the bytes is what they hold
---   state_stored_lem == the bytes of a state in twelve
 use Prim.Native.Nat.{ℕ, zero, suc, ◌+◌, ◌*◌, ◌/◌, ◌%◌, ◌≤◌}
 use mathlib.Core.Path.{◌≡◌, sym, ◌∙◌}
 use mathlib.Core.Bool.{Bool, true, false, ◌&&◌, ◌||◌}
@@ -232,7 +231,3 @@ module _ (b : List ℕ) (w : Bytes b) (n g m v count i : ℕ) (f s : Bool)
     seen q number most e =
         rw (en, eg, em, ec ∙ four_read b 8)
         (held_here b w v i f s (ev ∙ four_read b 3) place fits smalls q number most (sym tests ∙ e))
-
-pub state_stored_lem : (s : State) (b b' : List ℕ) → length b ≡ 12 → b' ≡ state_bytes s → b' ≡ state_stored s b
-unfolding state_stored
-state_stored_lem s b b' h e = rw (drop_of_length-le b {i = 12} (omega (arith, h)), append-nil (state_bytes s)) e

@@ -4,8 +4,7 @@
 ghost use Rattle.std.specs.Prelude.{◌≡◌, true, false, ◌%◌, ◌/◌, ◌≤◌, ◌<◌, MatchOption};
 ghost use Rattle.rules.specs.State.{WellFormed};
 ghost use Rattle.buses.specs.Buses.{phase_from, phase_number, state_from, Fit};
-ghost use Rattle.hosting.specs.Bytes.{phase_byte, left_byte, phase_of};
-ghost use Rattle.hosting.specs.Calls.{state_stored};
+ghost use Rattle.hosting.specs.Bytes.{state_bytes, phase_byte, left_byte, phase_of};
 ghost use Rattle.octets.specs.Octets.{small as small_of, place_of, fitting, sound_in, Holds};
 
 use buses::Bus;
@@ -101,7 +100,7 @@ fn left_byte(k: u32) -> u8
 // Writes the bytes of a state.
 pub fn put(s: Held, b: &mut [u8; 12])
     requires { WellFormed (state_from s.n s.bus) × Fit s.bus }
-    ensures { b.new ≡ state_stored (state_from s.n s.bus) b.old }
+    ensures { b.new ≡ state_bytes (state_from s.n s.bus) }
 {
     let bus = s.bus;
     let [first, second, third, fourth] = bus.count.to_le_bytes();

@@ -10,13 +10,18 @@
 --   part_rest, nothing_after == a slice that starts later, as a call is lent it, is the whole rest
 --   number_part     == the number in such a slice
 --   number_below    == w bytes write a number below 256 ^ w
+--   in_first        == an element of the first k, in a form that computes where the numbers are literals
 --   low_four, four_read == the four bytes of a number, and the number of four bytes, as the library has them
 use Prim.Native.Nat.{ℕ, zero, suc, ◌+◌, ◌-◌, ◌/◌, ◌%◌, ◌^◌, ◌≤◌, ◌<◌}
 use mathlib.Core.Path.{◌≡◌, refl, sym, ◌∙◌}
+use mathlib.Core.Bool.{Bool, true, false, cond}
 use mathlib.Core.List.{List, [], ◌∷◌}
 use native.Mathlib.Omega.{arith}
 use native.Mathlib.Numerals.{add-one}
-use lib.ListN.{length, get_or, take, drop, length-drop, drop_of_length-le}
+use borrow.Author.Tests.{ltb-true, ltb-false}
+use lib.Dec.{ltb}
+use lib.ListN.{get_or-eq_default, length-take, length, get_or, take, drop, length-drop, drop_of_length-le}
+use Rattle.std.proofs.lemmas.List.{get_or-take}
 use lib.Seq.{drop-cons, take_all, get_or-drop}
 use Rattle.std.specs.Int.{w32, to_le_bytes, from_le_bytes}
 use Rattle.words.specs.Words.{low_first, number_low}
@@ -96,3 +101,10 @@ low_four v =
 
 pub four_read : (b : List ℕ) (p : ℕ) → from_le_bytes w32 (slots b p 4) ≡ number_low 4 b p
 four_read b p = omega arith
+
+pub in_first : (k : ℕ) (l : List ℕ) (i : ℕ) → get_or (take k l) i 0 ≡ cond (ltb i k) (get_or l i 0) 0
+in_first k l i = go (ltb i k) refl
+  where
+    go : (b : Bool) → ltb i k ≡ b → get_or (take k l) i 0 ≡ cond b (get_or l i 0) 0
+    go true e = get_or-take k l i 0 (ltb-true i k e)
+    go false e = let h = ltb-false i k e in get_or-eq_default (take k l) 0 (omega (arith, length-take k l))

@@ -2,7 +2,6 @@
 use Rattle.signals.proofs.Flags.{as_flag}
 use Rattle.words.proofs.Words.{low_four}
 use Rattle.hosting.specs.Bytes.{state_bytes}
-use Rattle.octets.proofs.Seen.{state_stored_lem}
 use Rattle.octets.proofs.put.Goals as goal
 
 pub returns : goal.returns
@@ -11,4 +10,4 @@ returns c =
     let lock = (as_flag _ c.requires.1.lock).is in
     let granted = (as_flag _ c.requires.1.granted).is in
     let count = low_four c.args.s.bus.count in
-    state_stored_lem _ _ _ c.told-b (rw (c.phase_byte.ensures, c.left_byte.ensures, c.to_le_bytes.ensures, count, ← lock, ← granted))
+    rw (c.phase_byte.ensures, c.left_byte.ensures, c.to_le_bytes.ensures, count, ← lock, ← granted)
