@@ -1,6 +1,7 @@
 -- The 42 bytes and the well-formed judges correspond one to one: the statements of specs/Promises.antt, each by the law of its name.
 --
 --   judge_fits   == a well-formed judge fits its bytes
+--   first_judge  == the first 42 bytes say what judge it is
 use Rattle.std.specs.Prelude.{Ok}
 use Prim.Native.Nat.{ℕ, zero, suc, ◌+◌, ◌/◌, ◌%◌, ◌≤◌, ◌<◌}
 use mathlib.Core.Path.{◌≡◌, refl, sym, ◌∙◌}
@@ -10,7 +11,8 @@ use native.Mathlib.Omega.{arith}
 use borrow.Author.Tests.{leb-true, leb-false, le-leb, eqb-true}
 use lib.Dec.{eqb, leb}
 use lib.ListN.{length, get_or, take, drop, get_or-eq_default}
-use lib.Seq.{take_at, take-add, drop-drop}
+use lib.Seq.{take_at, take-add, drop-drop, take-take}
+use Rattle.std.proofs.lemmas.List.{drop-take}
 use Rattle.rules.specs.declared.Inputs.{Inputs}
 use Rattle.rules.specs.declared.Outputs.{Outputs}
 use Rattle.rules.specs.declared.Cycle.{Cycle}
@@ -26,7 +28,7 @@ use Rattle.rulebook.specs.State.{watch_ok}
 use Rattle.rulebook.specs.Kept.{Sound}
 use Rattle.formats.proofs.Limits.{inputs_small, outputs_small}
 use Rattle.words.specs.Words.{low_first, number_low}
-use Rattle.words.proofs.Words.{Bytes, none_bytes, one_more, slots, slots_take, number_bytes, bytes_of_number}
+use Rattle.words.proofs.Words.{Bytes, none_bytes, one_more, slots, slots_take, in_first, number_bytes, bytes_of_number}
 use Rattle.docketing.specs.Bytes.{judge_size, watch_byte, left_byte, head_of, head_bytes, input_bytes, output_bytes, cycle_bytes, judge_bytes, watch_of, is_judge, cycle_in, judge_in, bytes_judge}
 use Rattle.docketing.specs.Fits.{InputsFit, OutputsFit, JudgeFits}
 use Rattle.docketing.specs.Promises.{HasItsBytes, ReadAgain, WrittenAgain, OneJudge, CountInItsBytes}
@@ -166,6 +168,11 @@ read_again j rest s =
     let lost : take 16 (drop 26 b) ≡ j.lost = take_at j.lost rest 16 f.lost.size in
     let w = watch_shape j.watch in
     simp (flag_small j.opened, w.0, w.1, flag_again j.opened, watch_again j.watch, cycle_again j rest f.inputs f.outputs, locked, count, lost)
+
+-- what lies behind the first bytes is not read
+pub first_judge : (b : List ℕ) → bytes_judge (take judge_size b) ≡ bytes_judge b
+unfolding bytes_judge is_judge judge_in cycle_in
+first_judge b = simp (in_first 42 b, drop-take 26 16 b, take-take 16 16 (drop 26 b) (omega arith))
 
 -- the parts of the test
 record Shape (b : List ℕ) : Type 0 where

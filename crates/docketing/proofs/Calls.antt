@@ -25,14 +25,14 @@ use Rattle.rulebook.specs.Charges.{charges}
 use Rattle.rulebook.specs.Step.{number_of}
 use Rattle.rulebook.proofs.Named.{mask_bit}
 use Rattle.docketing.specs.Bytes.{judge_size, bytes_judge}
-use Rattle.docketing.specs.Calls.{mask_size, Ruling, taken, refused, of_docket, judge_step, judge_number, judge_after, broken_after, judge_start, start_after}
+use Rattle.docketing.specs.Calls.{mask_size, Ruling, of_docket, judge_step, judge_number, judge_after, broken_after, judge_start, start_after}
 use Rattle.docketing.specs.Promises.{MaskNamesTheCharged, RefusedStepsKeep, RefusedStartsKeep, OneStep, OneStart}
 
-pub short_judge : (judge broken : List ℕ) (c : Cycle) → length judge < judge_size → judge_step judge broken c ≡ refused Short
+pub short_judge : (judge broken : List ℕ) (c : Cycle) → length judge < judge_size → judge_step judge broken c ≡ Err Short
 unfolding judge_step
 short_judge judge broken c h = simp (lt-ltb (length judge) 42 h)
 
-pub short_broken : (judge broken : List ℕ) (c : Cycle) → judge_size ≤ length judge → length broken < mask_size → judge_step judge broken c ≡ refused Short
+pub short_broken : (judge broken : List ℕ) (c : Cycle) → judge_size ≤ length judge → length broken < mask_size → judge_step judge broken c ≡ Err Short
 unfolding judge_step
 short_broken judge broken c room h = simp (le-ltb (length judge) 42 room, lt-ltb (length broken) 4 h)
 
@@ -51,8 +51,8 @@ plain_start n judge room = simp (le-ltb (length judge) 42 room)
 
 -- a refusal changes no byte
 pub refused_unchanged : (r : Ruling) (judge broken : List ℕ) → 1 ≤ judge_number r → (judge_after r judge ≡ judge) × (broken_after r broken ≡ broken)
-refused_unchanged (taken j m) judge broken h = absurd (omega arith)
-refused_unchanged (refused r) judge broken h = (refl, refl)
+refused_unchanged (Ok (j, m)) judge broken h = absurd (omega arith)
+refused_unchanged (Err r) judge broken h = (refl, refl)
 
 pub refused_steps_keep : RefusedStepsKeep
 refused_steps_keep c judge broken judge' broken' number some call =

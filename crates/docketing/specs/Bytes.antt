@@ -15,9 +15,8 @@
 --   judge_bytes j == the bytes of the judge j: head_bytes are 0 to 11, cycle_bytes of the previous cycle 12 to 25; the lost counts follow
 --   is_judge b    == b begins with the bytes of a judge, well formed or not
 --   judge_in b    == that judge
---   Docket        == what lent bytes are: a judge, or bytes that no judge has
 --   bytes_judge b == the judge whose bytes b begins with, if there is one
-use Rattle.std.specs.Prelude.{ℕ, Bool, ◌&&◌, ◌||◌, cond, List, [], ◌∷◌, ◌++◌, eqb, leb, get_or, take, drop}
+use Rattle.std.specs.Prelude.{ℕ, Bool, ◌&&◌, ◌||◌, cond, List, [], ◌∷◌, ◌++◌, Option, Some, None, eqb, leb, get_or, take, drop}
 use Rattle.rules.specs.declared.Inputs.{Inputs}
 use Rattle.rules.specs.declared.Outputs.{Outputs}
 use Rattle.rules.specs.declared.Cycle.{Cycle}
@@ -108,9 +107,5 @@ judge_in b =
       lost = take 16 (drop 26 b);
     }
 
-pub data Docket : Type 0 where
-  known : Judge → Docket
-  unknown : Docket
-
-unfoldable pub bytes_judge : List ℕ → Docket
-bytes_judge b = cond (is_judge b) (known (judge_in b)) unknown
+unfoldable pub bytes_judge : List ℕ → Option Judge
+bytes_judge b = cond (is_judge b) (Some (judge_in b)) None

@@ -10,7 +10,7 @@
 --   judge_after r buffer, broken_after r buffer == the two buffers after a step
 --   judge_start n judge == what a start over the lent bytes comes to; start_after gives the buffer afterwards
 --   JudgeStepCall, JudgeStartCall == the contracts of the two calls
-use Rattle.std.specs.Prelude.{ℕ, ◌≡◌, cond, List, ◌++◌, ltb, length, drop, Err, Ok}
+use Rattle.std.specs.Prelude.{ℕ, ◌≡◌, cond, List, ◌++◌, Option, Some, None, Result, Ok, Err, ltb, length, drop}
 use Rattle.rules.specs.declared.Refusal.{Refusal}
 use Rattle.rules.specs.declared.Refusal.TheVariants.{Short, State as StateRefusal}
 use Rattle.rules.specs.declared.Cycle.{Cycle}
@@ -23,7 +23,7 @@ use Rattle.rulebook.specs.State.{start_judge, start_of}
 use Rattle.rulebook.specs.Named.{mask_of}
 use Rattle.rulebook.specs.Step.{number_of, judge_of}
 use Rattle.words.specs.Words.{low_first}
-use Rattle.docketing.specs.Bytes.{judge_size, judge_bytes, Docket, known, unknown, bytes_judge}
+use Rattle.docketing.specs.Bytes.{judge_size, judge_bytes, bytes_judge}
 
 -- HBUSREQ, HLOCK, HREADY, HTRANS, HBURST, HGRANT, HMASTER, HMASTLOCK, DECIDE, GRANTED, BUSREQ
 abbrev pub recorded : ℕ → ℕ → ℕ → ℕ → ℕ → ℕ → ℕ → ℕ → ℕ → ℕ → ℕ → Cycle
@@ -38,30 +38,29 @@ recorded hbusreq hlock hready htrans hburst hgrant hmaster hmastlock decide gran
 abbrev pub mask_size : ℕ
 mask_size = 4
 
-pub data Ruling : Type 0 where
-  taken : Judge → ℕ → Ruling
-  refused : Refusal → Ruling
+abbrev pub Ruling : Type 0
+Ruling = Result (Judge × ℕ) Refusal
 
 abbrev pub ruled_by : Verdict → Judgement → Ruling
-ruled_by (Ok _) a = taken a.judge (mask_of a.charged)
-ruled_by (Err r) a = refused r
+ruled_by (Ok _) a = Ok (a.judge, mask_of a.charged)
+ruled_by (Err r) a = Err r
 
 abbrev pub ruling_of : Judgement → Ruling
 ruling_of a = ruled_by a.verdict a
 
 -- 10 where the bytes are no judge; else as a step of that judge, which gives 10 where it is not well formed
-unfoldable pub of_docket : Docket → Cycle → Ruling
-of_docket (known j) c = ruling_of (judge_of j c)
-of_docket unknown c = refused StateRefusal
+unfoldable pub of_docket : Option Judge → Cycle → Ruling
+of_docket (Some j) c = ruling_of (judge_of j c)
+of_docket None c = Err StateRefusal
 
 unfoldable pub judge_step : List ℕ → List ℕ → Cycle → Ruling
 judge_step judge broken c =
-    cond (ltb (length judge) judge_size) (refused Short)
-    (cond (ltb (length broken) mask_size) (refused Short) (of_docket (bytes_judge judge) c))
+    cond (ltb (length judge) judge_size) (Err Short)
+    (cond (ltb (length broken) mask_size) (Err Short) (of_docket (bytes_judge judge) c))
 
 abbrev pub judge_number : Ruling → ℕ
-judge_number (taken j m) = 0
-judge_number (refused r) = refusal_number r
+judge_number (Ok (j, m)) = 0
+judge_number (Err r) = refusal_number r
 
 -- the first bytes of a buffer, and the rest as it was
 unfoldable pub judge_stored : Judge → List ℕ → List ℕ
@@ -71,12 +70,12 @@ unfoldable pub mask_stored : ℕ → List ℕ → List ℕ
 mask_stored m buffer = low_first 4 m ++ drop mask_size buffer
 
 abbrev pub judge_after : Ruling → List ℕ → List ℕ
-judge_after (taken j m) buffer = judge_stored j buffer
-judge_after (refused r) buffer = buffer
+judge_after (Ok (j, m)) buffer = judge_stored j buffer
+judge_after (Err r) buffer = buffer
 
 abbrev pub broken_after : Ruling → List ℕ → List ℕ
-broken_after (taken j m) buffer = mask_stored m buffer
-broken_after (refused r) buffer = buffer
+broken_after (Ok (j, m)) buffer = mask_stored m buffer
+broken_after (Err r) buffer = buffer
 
 -- 9, then as a start: 1; the judge beside a refusal is one of no masters
 unfoldable pub judge_start : ℕ → List ℕ → Started

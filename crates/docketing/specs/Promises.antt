@@ -1,7 +1,7 @@
 -- What is promised of the judge's bytes and calls. Each statement is proved in proofs/ by a law of its name, in lower case with underscores.
 --
 --   AreBytes b       == each element of b is a byte, as those of a lent buffer are
-use Rattle.std.specs.Prelude.{ℕ, ◌≤◌, ◌<◌, ◌≡◌, List, ◌++◌, map, length, get_or, take, drop}
+use Rattle.std.specs.Prelude.{ℕ, ◌≤◌, ◌<◌, ◌≡◌, List, ◌++◌, Some, map, length, get_or, take, drop}
 use Rattle.rules.specs.declared.Cycle.{Cycle}
 use Rattle.rules.specs.Masks.{high}
 use Rattle.rulebook.specs.declared.Rule.TheVariants.{A1}
@@ -12,7 +12,7 @@ use Rattle.rulebook.specs.Named.{mask_of}
 use Rattle.rulebook.specs.Kept.{Sound}
 use Rattle.rulebook.specs.Recounted.{with_count}
 use Rattle.words.specs.Words.{low_first}
-use Rattle.docketing.specs.Bytes.{judge_size, judge_bytes, known, bytes_judge}
+use Rattle.docketing.specs.Bytes.{judge_size, judge_bytes, bytes_judge}
 use Rattle.docketing.specs.Calls.{JudgeStepCall, JudgeStartCall}
 
 abbrev pub AreBytes : List ℕ → Type 0
@@ -24,11 +24,11 @@ HasItsBytes = (j : Judge) → Sound j → (length (judge_bytes j) ≡ judge_size
 
 -- reading them gives it back, whatever follows them,
 abbrev pub ReadAgain : Type 0
-ReadAgain = (j : Judge) (rest : List ℕ) → Sound j → bytes_judge (judge_bytes j ++ rest) ≡ known j
+ReadAgain = (j : Judge) (rest : List ℕ) → Sound j → bytes_judge (judge_bytes j ++ rest) ≡ Some j
 
 -- bytes that are read as a judge are its bytes,
 abbrev pub WrittenAgain : Type 0
-WrittenAgain = (b : List ℕ) (j : Judge) → judge_size ≤ length b → AreBytes b → bytes_judge b ≡ known j → judge_bytes j ≡ take judge_size b
+WrittenAgain = (b : List ℕ) (j : Judge) → judge_size ≤ length b → AreBytes b → bytes_judge b ≡ Some j → judge_bytes j ≡ take judge_size b
 
 -- and no two well-formed judges have the same bytes.
 abbrev pub OneJudge : Type 0

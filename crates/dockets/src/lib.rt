@@ -1,26 +1,21 @@
-// The judge's state in the first 42 bytes of a lent slice, seen as a judge.
+// The judge's state in 42 bytes, seen as a judge.
 #![tactic(auto)]
 
 mod reading;
 
-ghost use Rattle.std.specs.Prelude.{◌≡◌, ◌≤◌, length};
-ghost use Rattle.docketing.specs.Bytes.{is_judge, judge_in};
+ghost use Rattle.std.specs.Prelude.{◌≡◌};
+ghost use Rattle.docketing.specs.Bytes.{bytes_judge};
 
 use rulebook::Judge;
 
-// What lent bytes are: whether those of a judge, well formed or not, and that judge if so.
-#[derive(Clone, Copy)]
-pub struct Docket {
-    pub known: bool,
-    pub judge: Judge,
-}
-
-// What the first 42 bytes are.
-pub fn see(b: &[u8]) -> Docket
-    requires { 42 ≤ length b.now }
-    ensures { (result.known ≡ is_judge b.now) × (result.judge ≡ judge_in b.now) }
+// The judge that these bytes are, well formed or not, if they are those of one.
+#[tactic(auto, unfolding(docketing::specs::Bytes::bytes_judge))]
+pub fn see(b: &[u8; 42]) -> Option<Judge>
+    ensures { result ≡ bytes_judge b.now }
 {
-    let known = reading::is_judge(b);
-    let judge = reading::judge_in(b);
-    Docket { known, judge }
+    if reading::is_judge(b) {
+        Some(reading::judge_in(b))
+    } else {
+        None
+    }
 }

@@ -1,53 +1,35 @@
--- The parts of a judge, written into its bytes, over plain lists.
+-- A judge, written as its bytes, over plain lists.
 --
---   left_again == the byte of the ready cycles left
---   next_store == one more lost count is written
---   all_stored == the four parts are the bytes of a judge
---   mask_stored_lem == four stores are a mask
-use Prim.Native.Nat.{ℕ, ◌+◌, ◌%◌, ◌≤◌, ◌<◌}
-use mathlib.Core.Path.{◌≡◌, refl, ◌∙◌}
-use mathlib.Core.List.{List, [], ◌∷◌, ◌++◌}
+--   flag_is    == a flag as a byte
+--   lost_is    == the low bytes of the lost counts are the counts
+--   all_stored == the four parts, one behind the other, are the bytes of a judge
+use Prim.Native.Nat.{ℕ, ◌%◌, ◌<◌}
+use mathlib.Core.Path.{◌≡◌, refl}
+use mathlib.Core.Bool.{Bool, true, false}
+use mathlib.Core.List.{List, [], ◌++◌, append-nil}
 use native.Mathlib.Omega.{arith}
-use native.Mathlib.Numerals.{add-one}
-use lib.ListN.{length, get_or, take, set}
-use lib.Seq.{sets, sets-eq, take-suc, length-take-le}
-use Rattle.rulebook.specs.declared.Watch.{Watch}
-use Rattle.rulebook.specs.declared.Watch.TheVariants.{OnG3}
+use borrow.Rule.Slice.PartMut.{post_of, put_mid}
+use lib.ListN.{length, get_or, drop, drop_of_length-le}
+use lib.Seq.{drop-drop}
+use Rattle.std.specs.Int.{from_bool}
+use Rattle.std.proofs.lemmas.Grind.{same_number_lists}
+use Rattle.rules.specs.Step.{flag_of}
 use Rattle.rulebook.specs.declared.Judge.{Judge}
-use Rattle.fields.proofs.Stores.{then_sets}
-use Rattle.words.specs.Words.{low_first}
-use Rattle.docketing.specs.Bytes.{left_byte, head_of, head_bytes, input_bytes, output_bytes, cycle_bytes, judge_bytes}
-use Rattle.docketing.specs.Fits.{Low, JudgeFits}
-use Rattle.docketing.specs.Calls.{judge_stored, mask_stored}
+use Rattle.docketing.specs.Bytes.{head_of, head_bytes, input_bytes, output_bytes, cycle_bytes, judge_bytes}
+use Rattle.docketing.specs.Fits.{Low}
 
--- a number that fits a byte is its low byte
-pub left_again : (w : Watch) (k r : ℕ) → left_byte w < 256 → w ≡ OnG3 k → r ≡ k % 256 → r ≡ left_byte w
-left_again w k r h e f =
-    let small : k < 256 = rw e at h in
-    rw e (omega (arith, f, small))
+pub flag_is : (b : Bool) → from_bool b ≡ flag_of b
+flag_is true = refl
+flag_is false = refl
 
--- b' is b with the first i lost counts written
-pub next_store : (lost b b' : List ℕ) (i v : ℕ) → Low lost → i < 16 → v ≡ get_or lost i 0 % 256 → b' ≡ sets b 26 (take i lost)
-    → set b' (26 + i) v ≡ sets b 26 (take (i + 1) lost)
-next_store lost b b' i v low h e so_far =
-    let long : length (take i lost) ≡ i = length-take-le i lost (omega (arith, low.size)) in
-    let is : v ≡ get_or lost i 0 = omega (arith, low.below i) in
-    let more : take (i + 1) lost ≡ take i lost ++ (v ∷ []) = rw (add-one i, is) (take-suc lost i 0 (omega (arith, low.size))) in
-    rw more (then_sets b b' (set b' (26 + i) v) 26 (26 + i) (take i lost) (v ∷ []) so_far (omega arith) refl)
+pub lost_is : (lost bytes : List ℕ) → Low lost → length bytes ≡ 16 → ((k : ℕ) → k < 16 → get_or bytes k 0 ≡ get_or lost k 0 % 256) → bytes ≡ lost
+lost_is lost bytes low size each =
+    same_number_lists bytes lost (omega (arith, low.size)) (λ k h. omega (arith, low.below k, each k (omega arith)))
 
-pub all_stored : (j : Judge) (b b₁ b₂ b₃ b₄ : List ℕ) → JudgeFits j → 42 ≤ length b
-    → b₁ ≡ sets b 0 (head_bytes j) → b₂ ≡ sets b₁ 12 (input_bytes j.previous.inputs) → b₃ ≡ sets b₂ 19 (output_bytes j.previous.outputs)
-    → b₄ ≡ sets b₃ 26 j.lost → b₄ ≡ judge_stored j b
-unfolding judge_stored judge_bytes head_of cycle_bytes input_bytes output_bytes
-all_stored j b b₁ b₂ b₃ b₄ f room e₁ e₂ e₃ e₄ =
-    let x = input_bytes j.previous.inputs in
-    let o = output_bytes j.previous.outputs in
-    let two : b₂ ≡ sets b 0 (head_bytes j ++ x) = then_sets b b₁ b₂ 0 12 (head_bytes j) x e₁ refl e₂ in
-    let three : b₃ ≡ sets b 0 (head_bytes j ++ (x ++ o)) = then_sets b b₂ b₃ 0 19 (head_bytes j ++ x) o two refl e₃ in
-    let all : b₄ ≡ sets b 0 (judge_bytes j) = then_sets b b₃ b₄ 0 26 (head_bytes j ++ (x ++ o)) j.lost three refl e₄ in
-    let long : length (judge_bytes j) ≡ 42 = omega (arith, f.lost.size) in
-    all ∙ rw long at (sets-eq (judge_bytes j) b 0 (omega arith))
-
-pub mask_stored_lem : (m : ℕ) (b b' : List ℕ) → 4 ≤ length b → b' ≡ sets b 0 (low_first 4 m) → b' ≡ mask_stored m b
-unfolding mask_stored
-mask_stored_lem m b b' h e = e ∙ sets-eq (low_first 4 m) b 0 h
+pub all_stored : (j : Judge) (b head x o lost : List ℕ) → length b ≡ 42
+    → head ≡ head_bytes j → x ≡ input_bytes j.previous.inputs → o ≡ output_bytes j.previous.outputs → lost ≡ j.lost
+    → put_mid 26 16 (put_mid 19 7 (put_mid 12 7 (head ++ post_of 0 12 b) x) o) lost ≡ judge_bytes j
+unfolding judge_bytes head_of cycle_bytes input_bytes output_bytes
+all_stored j b head x o lost size eh ex eo el =
+    let none : drop 42 b ≡ [] = drop_of_length-le b {i = 42} (omega arith) in
+    rw (eh, ex, eo, el) (simp (drop-drop, none, append-nil))

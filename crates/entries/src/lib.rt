@@ -1,37 +1,29 @@
-// The judge's state written into the first 42 bytes of a lent slice, and its mask into the first four of another.
+// The judge's state written as 42 bytes, and its mask as four.
 #![tactic(auto)]
 
 mod parts;
 
-ghost use Rattle.std.specs.Prelude.{◌≡◌, ◌≤◌, length};
+ghost use Rattle.std.specs.Prelude.{◌≡◌};
+ghost use Rattle.words.specs.Words.{low_first};
+ghost use Rattle.docketing.specs.Bytes.{judge_bytes};
 ghost use Rattle.docketing.specs.Fits.{JudgeFits};
-ghost use Rattle.docketing.specs.Calls.{judge_stored, mask_stored};
 
 use rulebook::Judge;
 
 // Writes the bytes of a judge.
-pub fn put(j: Judge, b: &mut [u8])
-    requires { JudgeFits j × (42 ≤ length b.old) }
-    ensures { b.new ≡ judge_stored j b.old }
+pub fn put(j: Judge, b: &mut [u8; 42])
+    requires { JudgeFits j }
+    ensures { b.new ≡ judge_bytes j }
 {
-    let previous = j.previous;
-    let lost = j.lost;
-    let x = previous.inputs;
-    let o = previous.outputs;
-    let w = j.watch;
-    parts::put_head(j.n, j.opened, w, j.locked, j.waited, j.count, b);
-    parts::put_inputs(x, b);
-    parts::put_outputs(o, b);
-    parts::put_lost(lost, b);
+    b[..12].copy_from_slice(&parts::head_bytes(j));
+    b[12..19].copy_from_slice(&parts::input_bytes(j.previous.inputs));
+    b[19..26].copy_from_slice(&parts::output_bytes(j.previous.outputs));
+    b[26..].copy_from_slice(&parts::lost_bytes(j.lost));
 }
 
 // Writes a mask, low byte first.
-pub fn put_mask(m: u32, b: &mut [u8])
-    requires { 4 ≤ length b.old }
-    ensures { b.new ≡ mask_stored m b.old }
+pub fn put_mask(m: u32, b: &mut [u8; 4])
+    ensures { b.new ≡ low_first 4 m }
 {
-    b[0] = (m % 256) as u8;
-    b[1] = (m / 256 % 256) as u8;
-    b[2] = (m / 256 / 256 % 256) as u8;
-    b[3] = (m / 256 / 256 / 256 % 256) as u8;
+    *b = m.to_le_bytes();
 }

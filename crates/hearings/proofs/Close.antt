@@ -1,43 +1,47 @@
--- The ends of the judge's two calls, over plain values: J and B are the lent buffers, J' and B' the same at exit.
+-- The ends of the judge's two calls, over plain values: J and B are the lent buffers, which begin with the bytes h and m.
 --
---   start_fits == a start that is taken gives a judge that fits its bytes
---   start_short, start_taken, start_refused == the ends of a start
---   next_fits  == and so does a cycle that is taken
---   settled_taken, settled_refused == the ends of a cycle
---   lost_size  == the judge in bytes that are long enough has sixteen lost counts
---   step_short_judge, step_short_broken, step_unknown, step_known == the ends of a step
-use Rattle.std.specs.Prelude.{Err, Ok}
+--   put_back   == a buffer whose first bytes are put back is as it was
+--   start_short, start_fits, start_refused, start_taken == the ends of a start
+--   step_short_judge, step_short_broken, step_unknown, step_fits, step_refused, step_taken == the ends of a step
+--   step_called, start_called == the number of a verdict is what the call from C answers
+use Rattle.std.specs.Prelude.{Option, Some, None, Ok, Err}
 use Prim.Native.Nat.{ℕ, ◌≤◌, ◌<◌}
-use mathlib.Core.Path.{◌≡◌, sym, ◌∙◌, ap}
-use mathlib.Core.Bool.{Bool, true, false, not}
-use mathlib.Core.List.{List}
+use mathlib.Core.Path.{◌≡◌, refl, sym, ◌∙◌, ap}
+use mathlib.Core.Bool.{Bool, true, false}
+use mathlib.Core.List.{List, ◌++◌}
 use native.Mathlib.Omega.{arith}
-use borrow.Author.Tests.{not-true, not-false}
-use lib.ListN.{length, drop, length-drop}
+use lib.ListN.{length, take, drop, length-drop, take-append-drop}
 use lib.Seq.{length-take-le}
+use Rattle.std.proofs.lemmas.Option.{same_Some}
 use Rattle.rules.specs.declared.Refusal.{Refusal}
+use Rattle.rules.specs.declared.Refusal.TheVariants as refusal
 use Rattle.rules.specs.declared.Cycle.{Cycle}
 use Rattle.rules.specs.Codes.{most_masters}
-use Rattle.rules.specs.Refusals.{number_of}
 use Rattle.rulebook.specs.declared.Judge.{Judge}
 use Rattle.rulebook.specs.declared.Started.{Started}
+use Rattle.rulebook.specs.Results.{Verdict}
 use Rattle.rulebook.specs.State.{start_of}
-use Rattle.rulebook.specs.Step.{judge_of}
+use Rattle.rulebook.specs.Step.{number_of, judge_of}
 use Rattle.rulebook.proofs.Soundness.{start_sound, step_sound}
 use Rattle.rulebook.proofs.WellFormed.{facts_of}
 use Rattle.rulebook.proofs.Answers.{taken, next_judge_lem, begun}
 use Rattle.judging.specs.declared.Ruled.{Ruled}
 use Rattle.judging.specs.Ruled.{ruled_of}
-use Rattle.docketing.specs.Bytes.{is_judge, judge_in, bytes_judge}
+use Rattle.words.specs.Words.{low_first}
+use Rattle.docketing.specs.Bytes.{judge_bytes, is_judge, judge_in, bytes_judge}
 use Rattle.docketing.specs.Fits.{JudgeFits}
-use Rattle.docketing.specs.Calls.{ruling_of, of_docket, judge_number, judge_stored, mask_stored, judge_after, broken_after, JudgeStepCall, JudgeStartCall}
-use Rattle.docketing.proofs.Bytes.{judge_fits}
+use Rattle.docketing.specs.Calls.{ruling_of, of_docket, judge_step, judge_stored, mask_stored, Ruling, judge_number, JudgeStepCall, JudgeStartCall}
+use Rattle.hearings.specs.Hearings.{verdict_of, JudgeSteps, JudgeStarts}
+use Rattle.docketing.proofs.Bytes.{judge_fits, first_judge}
 use Rattle.docketing.proofs.Calls.{short_judge, short_broken, short_start, long_enough, plain_start}
 
--- a start: a is its answer
-module _ (n : ℕ) (J : List ℕ) where
-  pub start_short : length J < 42 → JudgeStartCall n J 9 J
-  start_short h = let e = short_start n J h in (rw e, rw e)
+pub put_back : (k : ℕ) (l first : List ℕ) → first ≡ take k l → first ++ drop k l ≡ l
+put_back k l first e = rw e (take-append-drop k l)
+
+-- a start: v is its answer, and a that of the judge
+module _ (n : ℕ) (J : List ℕ) (v : Verdict) where
+  pub start_short : length J < 42 → v ≡ Err refusal.Short → JudgeStarts n J v J
+  start_short h is = let e = short_start n J h in (rw (e, is), rw e)
 
   module _ (a : Started) (is : a ≡ start_of n) where
     pub start_fits : a.verdict ≡ Ok tt → JudgeFits a.judge
@@ -47,64 +51,79 @@ module _ (n : ℕ) (J : List ℕ) where
         rw (at, b.is) (judge_fits _ (start_sound n b.few b.many))
 
     module _ (room : 42 ≤ length J) where
-      pub start_taken : (J' : List ℕ) → a.verdict ≡ Ok tt → J' ≡ judge_stored a.judge J → JudgeStartCall n J 0 J'
-      start_taken J' e p = let u = plain_start n J room ∙ sym is in (rw (u, e), rw (u, e) p)
+      pub start_refused : (h : List ℕ) (r : Refusal) → h ≡ take 42 J → a.verdict ≡ Err r → v ≡ Err r → JudgeStarts n J v (h ++ drop 42 J)
+      start_refused h r back e w =
+          let u = plain_start n J room ∙ sym is in (rw (u, e, w), rw (u, e) (put_back 42 J h back))
 
-      pub start_refused : (r : Refusal) (k : ℕ) → a.verdict ≡ Err r → k ≡ number_of r → JudgeStartCall n J k J
-      start_refused r k e m = let u = plain_start n J room ∙ sym is in (rw (u, e) m, rw (u, e))
+      pub start_taken : (h : List ℕ) → a.verdict ≡ Ok tt → h ≡ judge_bytes a.judge → JudgeStarts n J (Ok tt) (h ++ drop 42 J)
+      unfolding judge_stored
+      start_taken h e p = let u = plain_start n J room ∙ sym is in (rw (u, e), rw (u, e, p))
 
--- a cycle: a is the judge's answer
-abbrev Settled : Judge → Cycle → List ℕ → List ℕ → ℕ → List ℕ → List ℕ → Type 0
-Settled j c J B r J' B' =
-    (r ≡ judge_number (ruling_of (judge_of j c)))
-    × (J' ≡ judge_after (ruling_of (judge_of j c)) J)
-    × (B' ≡ broken_after (ruling_of (judge_of j c)) B)
+-- a step: v is its answer, and a that of the judge
+module _ (c : Cycle) (J B : List ℕ) (v : Verdict) where
+  pub step_short_judge : length J < 42 → v ≡ Err refusal.Short → JudgeSteps c J B v J B
+  step_short_judge h is = let e = short_judge J B c h in (rw (e, is), rw e, rw e)
 
-module _ (j : Judge) (c : Cycle) (a : Ruled) (is : a ≡ ruled_of (judge_of j c)) where
-  verdict_is : a.verdict ≡ (judge_of j c).verdict
-  verdict_is = ap (λ (s : Ruled). s.verdict) is
+  module _ (room : 42 ≤ length J) (h : List ℕ) (first : h ≡ take 42 J) where
+    pub step_short_broken : length B < 4 → v ≡ Err refusal.Short → JudgeSteps c J B v (h ++ drop 42 J) B
+    step_short_broken k is = let e = short_broken J B c room k in (rw (e, is), rw e (put_back 42 J h first), rw e)
 
-  judge_is : a.judge ≡ (judge_of j c).judge
-  judge_is = ap (λ (s : Ruled). s.judge) is
+    module _ (space : 4 ≤ length B) (m : List ℕ) (second : m ≡ take 4 B) where
+      -- the bytes are read as they are, whatever follows them
+      read : judge_step J B c ≡ of_docket (bytes_judge h) c
+      read = long_enough J B c room space ∙ ap (λ (d : Option Judge). of_docket d c) (rw first (sym (first_judge J)))
 
-  pub next_fits : length j.lost ≡ most_masters → a.verdict ≡ Ok tt → JudgeFits a.judge
-  next_fits size e =
-      let t = taken j c (sym verdict_is ∙ e) in
-      rw (judge_is, next_judge_lem j c t) (judge_fits _ (step_sound j c (facts_of j t.sound size) t.good t.room))
+      unchanged : (r : Refusal) → judge_step J B c ≡ Err r → v ≡ Err r → JudgeSteps c J B v (h ++ drop 42 J) (m ++ drop 4 B)
+      unchanged r e is = (rw (e, is), rw e (put_back 42 J h first), rw e (put_back 4 B m second))
 
-  pub settled_taken : (J B J' B' : List ℕ) → a.verdict ≡ Ok tt → J' ≡ judge_stored a.judge J → B' ≡ mask_stored a.mask B → Settled j c J B 0 J' B'
-  settled_taken J B J' B' e p q =
-      let v : (judge_of j c).verdict ≡ (Ok tt) = sym verdict_is ∙ e in
-      (rw v, rw (v, ← judge_is) p, rw (v, ← ap (λ (s : Ruled). s.mask) is) q)
+      pub step_unknown : bytes_judge h ≡ None → v ≡ Err refusal.State → JudgeSteps c J B v (h ++ drop 42 J) (m ++ drop 4 B)
+      unfolding of_docket
+      step_unknown e is = unchanged refusal.State (read ∙ rw e) is
 
-  pub settled_refused : (J B : List ℕ) (r : Refusal) (k : ℕ) → a.verdict ≡ Err r → k ≡ number_of r → Settled j c J B k J B
-  settled_refused J B r k e m =
-      let v : (judge_of j c).verdict ≡ Err r = sym verdict_is ∙ e in
-      (rw v m, rw v, rw v)
+      module _ (j : Judge) (known : bytes_judge h ≡ Some j) (a : Ruled) (answer : a ≡ ruled_of (judge_of j c)) where
+        verdict_is : a.verdict ≡ (judge_of j c).verdict
+        verdict_is = ap (λ (s : Ruled). s.verdict) answer
 
--- a step
-module _ (c : Cycle) (J B : List ℕ) where
-  pub step_short_judge : length J < 42 → JudgeStepCall c J B 9 J B
-  step_short_judge h = let e = short_judge J B c h in (rw e, rw e, rw e)
+        judge_is : a.judge ≡ (judge_of j c).judge
+        judge_is = ap (λ (s : Ruled). s.judge) answer
 
-  module _ (room : 42 ≤ length J) where
-    pub lost_size : (j : Judge) → j ≡ judge_in J → length j.lost ≡ most_masters
-    unfolding judge_in
-    lost_size j e = rw e (length-take-le 16 (drop 26 J) (omega (arith, length-drop 26 J)))
+        ruled : judge_step J B c ≡ ruling_of (judge_of j c)
+        unfolding of_docket
+        ruled = read ∙ rw known
 
-    pub step_short_broken : length B < 4 → JudgeStepCall c J B 9 J B
-    step_short_broken h = let e = short_broken J B c room h in (rw e, rw e, rw e)
+        size : length j.lost ≡ most_masters
+        unfolding bytes_judge judge_in
+        size = go (is_judge h) refl
+          where
+            go : (b : Bool) → is_judge h ≡ b → length j.lost ≡ most_masters
+            go true e =
+                let is : judge_in h ≡ j = same_Some _ _ (sym (rw e) ∙ known) in
+                let long : length h ≡ 42 = rw first (length-take-le 42 J room) in
+                rw (← is) (length-take-le 16 (drop 26 h) (omega (arith, length-drop 26 h)))
+            go false e = let f : None ≡ Some j = sym (rw e) ∙ known in let z : ◌≡◌ {A = ℕ} 0 1 = cc in absurd (omega arith)
 
-    module _ (space : 4 ≤ length B) (known : Bool) (is : known ≡ is_judge J) where
-      pub step_unknown : not known ≡ true → JudgeStepCall c J B 10 J B
-      unfolding bytes_judge of_docket
-      step_unknown e =
-          let no : is_judge J ≡ false = sym is ∙ not-true known e in
-          let u = long_enough J B c room space in
-          (rw (u, no), rw (u, no), rw (u, no))
+        pub step_refused : (r : Refusal) → a.verdict ≡ Err r → v ≡ Err r → JudgeSteps c J B v (h ++ drop 42 J) (m ++ drop 4 B)
+        step_refused r e is = let f : (judge_of j c).verdict ≡ Err r = sym verdict_is ∙ e in unchanged r (ruled ∙ rw f) is
 
-      pub step_known : (j : Judge) (r : ℕ) (J' B' : List ℕ) → not known ≡ false → j ≡ judge_in J → Settled j c J B r J' B' → JudgeStepCall c J B r J' B'
-      unfolding bytes_judge of_docket
-      step_known j r J' B' e p s =
-          let yes : is_judge J ≡ true = sym is ∙ not-false known e in
-          rw (long_enough J B c room space, yes, ← p) s
+        module _ (e : a.verdict ≡ Ok tt) where
+          pub step_fits : JudgeFits a.judge
+          step_fits =
+              let t = taken j c (sym verdict_is ∙ e) in
+              rw (judge_is, next_judge_lem j c t) (judge_fits _ (step_sound j c (facts_of j t.sound size) t.good t.room))
+
+          pub step_taken : (h' m' : List ℕ) → h' ≡ judge_bytes a.judge → m' ≡ low_first 4 a.mask → JudgeSteps c J B (Ok tt) (h' ++ drop 42 J) (m' ++ drop 4 B)
+          unfolding judge_stored mask_stored
+          step_taken h' m' p q =
+              let f : (judge_of j c).verdict ≡ Ok tt = sym verdict_is ∙ e in
+              rw (ruled, f) (refl, rw (p, judge_is) refl, rw (q, ap (λ (s : Ruled). s.mask) answer) refl)
+
+-- the number of a verdict is what the call from C answers
+number_is : (r : Ruling) → number_of (verdict_of r) ≡ judge_number r
+number_is (Ok (j, m)) = refl
+number_is (Err r) = refl
+
+pub step_called : (c : Cycle) (J B : List ℕ) (v : Verdict) (k : ℕ) (J' B' : List ℕ) → JudgeSteps c J B v J' B' → k ≡ number_of v → JudgeStepCall c J B k J' B'
+step_called c J B v k J' B' s e = (e ∙ ap number_of s.0 ∙ number_is (judge_step J B c), s.1, s.2)
+
+pub start_called : (n : ℕ) (J : List ℕ) (v : Verdict) (k : ℕ) (J' : List ℕ) → JudgeStarts n J v J' → k ≡ number_of v → JudgeStartCall n J k J'
+start_called n J v k J' s e = (e ∙ ap number_of s.0, s.1)

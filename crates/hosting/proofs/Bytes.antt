@@ -4,6 +4,7 @@
 --   state_bytes_lem == a well-formed state has twelve bytes
 --   state_again     == they write that state, whatever follows them
 --   bytes_again     == bytes that write a state are its bytes
+--   first_state     == the first twelve bytes say what state it is
 use Rattle.std.specs.Prelude.{Some}
 use Prim.Native.Nat.{ℕ, zero, suc, ◌≤◌, ◌<◌}
 use mathlib.Core.Path.{◌≡◌, refl, sym, ◌∙◌}
@@ -21,7 +22,7 @@ use Rattle.rules.specs.Step.{flag_of}
 use Rattle.rules.proofs.Choice.{and_left, and_right}
 use Rattle.rules.proofs.Flags.{flag_most, flag_again}
 use Rattle.words.specs.Words.{low_first}
-use Rattle.words.proofs.Words.{Bytes, one_more, slots, slots_take, number_bytes, bytes_of_number}
+use Rattle.words.proofs.Words.{Bytes, one_more, slots, slots_take, in_first, number_bytes, bytes_of_number}
 use Rattle.hosting.specs.Bytes.{state_size, phase_byte, left_byte, state_bytes, phase_of, is_state, state_in, bytes_state}
 
 flag_byte : (f : ℕ) → leb f 1 ≡ true → flag_of (eqb f 1) ≡ f
@@ -127,3 +128,8 @@ bytes_again b s h w e = go (is_state b) refl
         let i : s ≡ state_in b = cc in
         rw i (shaped_bytes b w q ∙ sym (slots_take b 12 0 h))
     go false q = let f = rw q at e in let z : ◌≡◌ {A = ℕ} 0 1 = cc in absurd (omega arith)
+
+-- what lies behind the first bytes is not read
+pub first_state : (b : List ℕ) → bytes_state (take state_size b) ≡ bytes_state b
+unfolding bytes_state is_state state_in
+first_state b = simp (in_first 12 b)

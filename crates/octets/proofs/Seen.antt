@@ -1,21 +1,20 @@
 -- What lent bytes hold: l, a, p and k are the bytes of HMASTLOCK, GRANTED, the phase and k, and v is the number of the four.
 --
---   seen             == what is seen of the bytes is what they hold
---   state_stored_lem == the twelve stores of a state
-use Prim.Native.Nat.{ℕ, zero, suc, ◌+◌, ◌-◌, ◌*◌, ◌/◌, ◌%◌, ◌≤◌}
+--   unsound, seen    == what is seen of the bytes is what they hold
+use Prim.Native.Nat.{ℕ, zero, suc, ◌+◌, ◌*◌, ◌/◌, ◌%◌, ◌≤◌}
 use mathlib.Core.Path.{◌≡◌, sym, ◌∙◌}
-use mathlib.Core.Bool.{Bool, true, ◌&&◌, ◌||◌}
-use mathlib.Core.List.{List}
+use mathlib.Core.Bool.{Bool, true, false, ◌&&◌, ◌||◌}
+use mathlib.Core.List.{List, append-nil}
 use native.Mathlib.Omega.{arith}
 use borrow.Author.Tests.{leb-true, le-leb, eqb-true}
 use lib.Dec.{eqb, leb, ltb}
-use lib.ListN.{length, get_or, take, drop}
-use lib.Seq.{sets, sets-eq}
+use lib.ListN.{length, get_or, drop_of_length-le}
+use Rattle.std.specs.Int.{w32, from_le_bytes}
 use Rattle.rules.specs.declared.State.{State}
 use Rattle.rules.specs.State.{phase_ok, well_formed}
 use Rattle.rules.proofs.Choice.{and_left, and_right, and_both}
 use Rattle.words.specs.Words.{number_low}
-use Rattle.words.proofs.Words.{Bytes, number_part}
+use Rattle.words.proofs.Words.{Bytes, slots, four_read}
 use Rattle.buses.specs.declared.Bus.{Bus}
 use Rattle.buses.specs.Buses.{phase_from, phase_number, state_from}
 use Rattle.buses.proofs.Phases.{number_of}
@@ -126,12 +125,11 @@ left_small l a (suc (suc zero)) k h e q = omega (arith, eqb-true k 0 e)
 left_small l a (suc (suc (suc zero))) k h e q = omega (arith, eqb-true k 0 e)
 left_small l a (suc (suc (suc (suc p)))) k h e q = absurd (omega arith)
 
-module _ (b : List ℕ) (w : Bytes b) (v i q : ℕ) (f s : Bool)
+module _ (b : List ℕ) (w : Bytes b) (v i : ℕ) (f s : Bool)
     (word : v ≡ number_low 4 b 3)
     (place : small v ≡ true → i ≡ place_of v)
     (fits : f ≡ fitting (i % 2) (i / 2 % 2) (i / 4 % 4) (i / 16))
     (smalls : s ≡ small v)
-    (number : q ≡ phase_number (phase_of (i / 4 % 4) (i / 16)))
   where
     abbrev tested_here : Bool
     tested_here = tested (get_or b 0 0) (get_or b 1 0) (get_or b 2 0) v (get_or b 7 0) (number_low 4 b 8) f s
@@ -186,44 +184,50 @@ module _ (b : List ℕ) (w : Bytes b) (v i q : ℕ) (f s : Bool)
         (and_both (and_both (fits_here low ∙ and_both h.left h.fits) (smalls ∙ low)) h.spare)
         (and_both (and_both (and_both (and_both (and_both h.few h.many) h.grant) h.owner) (rw r.granted h.together)) h.room)
 
-    abbrev bus_here : Bus
-    bus_here =
-        record { g = get_or b 1 0; m = get_or b 2 0; hmastlock = v % 2; granted = v / 256 % 2; phase = q; count = number_low 4 b 8 }
+    exact : tested_here ≡ sound_in b
+    exact = same_flag tested_here (sound_in b) (λ e. of_formed b (passes e)) (λ e. holds (formed_of b e))
 
-    same : tested_here ≡ true → state_from (get_or b 0 0) bus_here ≡ state_in b
-    unfolding state_in
-    same e =
-        let t = tested_of (get_or b 0 0) (get_or b 1 0) (get_or b 2 0) v (get_or b 7 0) (number_low 4 b 8) f s e in
-        let low = sym smalls ∙ t.small in
-        let r = bits low in
-        let k = phase_known (get_or b 3 0) (get_or b 4 0) (get_or b 5 0) (get_or b 6 0) (sym (fits_here low) ∙ t.fits) in
-        rw (r.lock, r.granted, number, r.phase_there, r.left_there, k)
+    -- q is the number of the phase there
+    module _ (q : ℕ) (number : q ≡ phase_number (phase_of (i / 4 % 4) (i / 16))) (most : q ≤ 5) where
+      abbrev bus_here : Bus
+      bus_here =
+          record { g = get_or b 1 0; m = get_or b 2 0; hmastlock = v % 2; granted = v / 256 % 2; phase = q; count = number_low 4 b 8 }
 
-    seen_here : q ≤ 5 → Holds b (record { sound = tested_here; n = get_or b 0 0; bus = bus_here })
-    seen_here h =
-        record {
-          exact = same_flag tested_here (sound_in b) (λ e. of_formed b (passes e)) (λ e. holds (formed_of b e));
-          known = same;
-          fit = record { phase = h; lock = omega arith; granted = omega arith };
-        }
+      same : tested_here ≡ true → state_from (get_or b 0 0) bus_here ≡ state_in b
+      unfolding state_in
+      same e =
+          let t = tested_of (get_or b 0 0) (get_or b 1 0) (get_or b 2 0) v (get_or b 7 0) (number_low 4 b 8) f s e in
+          let low = sym smalls ∙ t.small in
+          let r = bits low in
+          let k = phase_known (get_or b 3 0) (get_or b 4 0) (get_or b 5 0) (get_or b 6 0) (sym (fits_here low) ∙ t.fits) in
+          rw (r.lock, r.granted, number, r.phase_there, r.left_there, k)
 
-pub seen : (b : List ℕ) → Bytes b → (n g m v count i q : ℕ) (f s : Bool)
-    → n ≡ get_or b 0 0 → g ≡ get_or b 1 0 → m ≡ get_or b 2 0
-    → v ≡ number_low 4 (take (length b - 3) (drop 3 b)) 0
-    → count ≡ number_low 4 (take (length b - 8) (drop 8 b)) 0
-    → (small v ≡ true → i ≡ place_of v)
-    → f ≡ fitting (i % 2) (i / 2 % 2) (i / 4 % 4) (i / 16)
-    → s ≡ small v
-    → q ≡ phase_number (phase_of (i / 4 % 4) (i / 16)) → q ≤ 5
-    → Holds b (record {
-      sound = tested n g m v (get_or b 7 0) count f s;
-      n = n;
-      bus = record { g = g; m = m; hmastlock = v % 2; granted = v / 256 % 2; phase = q; count = count };
-    })
-seen b w n g m v count i q f s en eg em ev ec place fits smalls number h =
-    rw (en, eg, em, ec ∙ number_part 4 8 b 0)
-    (seen_here b w v i q f s (ev ∙ number_part 4 3 b 0) place fits smalls number h)
+      held_here : tested_here ≡ true → Holds b (record { n = get_or b 0 0; bus = bus_here })
+      held_here e =
+          record {
+            sound = sym exact ∙ e;
+            known = same e;
+            fit = record { phase = most; lock = omega arith; granted = omega arith };
+          }
 
-pub state_stored_lem : (s : State) (b b' : List ℕ) → 12 ≤ length b → b' ≡ sets b 0 (state_bytes s) → b' ≡ state_stored s b
-unfolding state_stored state_bytes
-state_stored_lem s b b' h e = e ∙ sets-eq (state_bytes s) b 0 h
+-- the bytes are read one by one, four at once, and four more
+module _ (b : List ℕ) (w : Bytes b) (n g m v count i : ℕ) (f s : Bool)
+    (en : n ≡ get_or b 0 0) (eg : g ≡ get_or b 1 0) (em : m ≡ get_or b 2 0)
+    (ev : v ≡ from_le_bytes w32 (slots b 3 4))
+    (ec : count ≡ from_le_bytes w32 (slots b 8 4))
+    (place : small v ≡ true → i ≡ place_of v)
+    (fits : f ≡ fitting (i % 2) (i / 2 % 2) (i / 4 % 4) (i / 16))
+    (smalls : s ≡ small v)
+  where
+    tests : tested n g m v (get_or b 7 0) count f s ≡ tested (get_or b 0 0) (get_or b 1 0) (get_or b 2 0) v (get_or b 7 0) (number_low 4 b 8) f s
+    tests = rw (en, eg, em, ec ∙ four_read b 8)
+
+    pub unsound : tested n g m v (get_or b 7 0) count f s ≡ false → sound_in b ≡ false
+    unsound e =
+        sym (exact b w v i f s (ev ∙ four_read b 3) place fits smalls) ∙ sym tests ∙ e
+
+    pub seen : (q : ℕ) → q ≡ phase_number (phase_of (i / 4 % 4) (i / 16)) → q ≤ 5 → tested n g m v (get_or b 7 0) count f s ≡ true
+        → Holds b (record { n = n; bus = record { g = g; m = m; hmastlock = v % 2; granted = v / 256 % 2; phase = q; count = count } })
+    seen q number most e =
+        rw (en, eg, em, ec ∙ four_read b 8)
+        (held_here b w v i f s (ev ∙ four_read b 3) place fits smalls q number most (sym tests ∙ e))

@@ -4,7 +4,7 @@
 --   small v         == in v the flags are below 2, and the phase and k below 4
 --   place_of v      == the four of v side by side, in bits of 1, 1, 2 and 2: 64 places
 --   fitting l a p k == a well-formed state may have the bytes l, a, p and k there
---   Holds b h       == h is what b holds
+--   Holds b h       == b begins with the bytes of a well-formed state, and h is that state
 use Rattle.std.specs.Prelude.{ℕ, ◌+◌, ◌*◌, ◌/◌, ◌%◌, ◌≡◌, Bool, true, ◌&&◌, ◌||◌, List, eqb, leb}
 use Rattle.rules.specs.State.{phase_ok, well_formed}
 use Rattle.buses.specs.Buses.{state_from, Fit}
@@ -24,6 +24,6 @@ unfoldable pub fitting : ℕ → ℕ → ℕ → ℕ → Bool
 fitting l a p k = (eqb p 1 || eqb k 0) && phase_ok (phase_of p k) (eqb a 1) (eqb l 1)
 
 pub record Holds (b : List ℕ) (h : Held) : Type 0 where
-  pub exact : h.sound ≡ sound_in b
-  pub known : h.sound ≡ true → state_from h.n h.bus ≡ state_in b
+  pub sound : sound_in b ≡ true
+  pub known : state_from h.n h.bus ≡ state_in b
   pub fit : Fit h.bus

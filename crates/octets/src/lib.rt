@@ -1,27 +1,19 @@
-// The arbiter's state in the first twelve bytes of a lent slice: seen as plain numbers, and written from them.
+// The arbiter's state in twelve bytes: seen as plain numbers, and written from them.
 #![tactic(auto)]
 
-ghost use Rattle.std.specs.Prelude.{◌≡◌, true, ◌%◌, ◌/◌, ◌≤◌, ◌<◌, length};
+ghost use Rattle.std.specs.Prelude.{◌≡◌, true, false, ◌%◌, ◌/◌, ◌≤◌, ◌<◌, MatchOption};
 ghost use Rattle.rules.specs.State.{WellFormed};
 ghost use Rattle.buses.specs.Buses.{phase_from, phase_number, state_from, Fit};
-ghost use Rattle.hosting.specs.Bytes.{phase_byte, left_byte, phase_of};
-ghost use Rattle.hosting.specs.Calls.{state_stored};
-ghost use Rattle.octets.specs.Octets.{small as small_of, place_of, fitting, Holds};
+ghost use Rattle.hosting.specs.Bytes.{state_bytes, phase_byte, left_byte, phase_of};
+ghost use Rattle.octets.specs.Octets.{small as small_of, place_of, fitting, sound_in, Holds};
 
 use buses::Bus;
 
-// What lent bytes hold: whether they are those of a well-formed state, and that state in plain numbers if so.
+// A state of n masters, in plain numbers.
 #[derive(Clone, Copy)]
 pub struct Held {
-    pub sound: bool,
     pub n: u32,
     pub bus: Bus,
-}
-
-fn wide(b: u8) -> u32
-    ensures { result ≡ b }
-{
-    b as u32
 }
 
 // HMASTLOCK, GRANTED, the phase and k are read as one number v, in which each has a byte: whether they are below 2, 2, 4 and 4.
@@ -56,16 +48,15 @@ fn phase(i: u64) -> u32
     ((table >> (i / 4 * 4)) % 8) as u32
 }
 
-// What the first twelve bytes hold.
-pub fn see(b: &[u8]) -> Held
-    requires { 12 ≤ length b.now }
-    ensures { Holds b.now result }
+// The state that these bytes hold, if they are those of a well-formed one.
+pub fn see(b: &[u8; 12]) -> Option<Held>
+    ensures { MatchOption result (sound_in b.now ≡ false) (λ h. Holds b.now h) }
 {
-    let n = wide(b[0]);
-    let g = wide(b[1]);
-    let m = wide(b[2]);
-    let v = words::four(&b[3..]);
-    let count = words::four(&b[8..]);
+    let n = b[0].into();
+    let g = b[1].into();
+    let m = b[2].into();
+    let v = u32::from_le_bytes([b[3], b[4], b[5], b[6]]);
+    let count = u32::from_le_bytes([b[8], b[9], b[10], b[11]]);
     let i = place(v);
     let granted = v / 0x100 % 2;
     let right = fits(i) & small(v) & (b[7] == 0);
@@ -75,6 +66,9 @@ pub fn see(b: &[u8]) -> Held
         & (m < n)
         & ((granted == 1) | (g == m))
         & (count <= 1000000);
+    if !(right & ranged) {
+        return None;
+    }
     let bus = Bus {
         g,
         m,
@@ -83,11 +77,7 @@ pub fn see(b: &[u8]) -> Held
         phase: phase(i),
         count,
     };
-    Held {
-        sound: right & ranged,
-        n,
-        bus,
-    }
+    Some(Held { n, bus })
 }
 
 // The byte of the phase with the number k, and the byte of its ready cycles to come: a hex digit for each number.
@@ -107,30 +97,25 @@ fn left_byte(k: u32) -> u8
     ((table >> (k * 4)) % 4) as u8
 }
 
-fn low_byte(v: u32) -> u8
-    ensures { result ≡ v % 256 }
+// Writes the bytes of a state.
+pub fn put(s: Held, b: &mut [u8; 12])
+    requires { WellFormed (state_from s.n s.bus) × Fit s.bus }
+    ensures { b.new ≡ state_bytes (state_from s.n s.bus) }
 {
-    (v % 256) as u8
-}
-
-// Writes the bytes of a state of n masters.
-pub fn put(n: u32, s: Bus, b: &mut [u8])
-    requires { WellFormed (state_from n s) × Fit s × (12 ≤ length b.old) }
-    ensures { b.new ≡ state_stored (state_from n s) b.old }
-{
-    let second = s.count / 256;
-    let third = second / 256;
-    let fourth = third / 256;
-    b[0] = n as u8;
-    b[1] = s.g as u8;
-    b[2] = s.m as u8;
-    b[3] = s.hmastlock as u8;
-    b[4] = s.granted as u8;
-    b[5] = phase_byte(s.phase);
-    b[6] = left_byte(s.phase);
-    b[7] = 0;
-    b[8] = low_byte(s.count);
-    b[9] = low_byte(second);
-    b[10] = low_byte(third);
-    b[11] = low_byte(fourth);
+    let bus = s.bus;
+    let [first, second, third, fourth] = bus.count.to_le_bytes();
+    *b = [
+        s.n as u8,
+        bus.g as u8,
+        bus.m as u8,
+        bus.hmastlock as u8,
+        bus.granted as u8,
+        phase_byte(bus.phase),
+        left_byte(bus.phase),
+        0,
+        first,
+        second,
+        third,
+        fourth,
+    ];
 }

@@ -10,14 +10,20 @@
 --   part_rest, nothing_after == a slice that starts later, as a call is lent it, is the whole rest
 --   number_part     == the number in such a slice
 --   number_below    == w bytes write a number below 256 ^ w
---   eight_read, eight_bytes == the ends of `eight` and `put_eight`
-use Prim.Native.Nat.{ℕ, zero, suc, ◌+◌, ◌-◌, ◌*◌, ◌/◌, ◌%◌, ◌^◌, ◌≤◌, ◌<◌}
+--   in_first        == an element of the first k, in a form that computes where the numbers are literals
+--   low_four, four_read == the four bytes of a number, and the number of four bytes, as the library has them
+use Prim.Native.Nat.{ℕ, zero, suc, ◌+◌, ◌-◌, ◌/◌, ◌%◌, ◌^◌, ◌≤◌, ◌<◌}
 use mathlib.Core.Path.{◌≡◌, refl, sym, ◌∙◌}
+use mathlib.Core.Bool.{Bool, true, false, cond}
 use mathlib.Core.List.{List, [], ◌∷◌}
 use native.Mathlib.Omega.{arith}
 use native.Mathlib.Numerals.{add-one}
-use lib.ListN.{length, get_or, take, drop, length-drop, drop_of_length-le}
+use borrow.Author.Tests.{ltb-true, ltb-false}
+use lib.Dec.{ltb}
+use lib.ListN.{get_or-eq_default, length-take, length, get_or, take, drop, length-drop, drop_of_length-le}
+use Rattle.std.proofs.lemmas.List.{get_or-take}
 use lib.Seq.{drop-cons, take_all, get_or-drop}
+use Rattle.std.specs.Int.{w32, to_le_bytes, from_le_bytes}
 use Rattle.words.specs.Words.{low_first, number_low}
 
 -- a list of bytes: what a lent slice holds
@@ -87,27 +93,18 @@ pub number_below : (w : ℕ) (b : List ℕ) (p : ℕ) → Bytes b → number_low
 number_below zero b p h = omega arith
 number_below (suc w) b p h = omega (arith, h.below p, number_below w b (p + 1) h)
 
--- what `eight` returns
-pub eight_read : (b : List ℕ) (low high : ℕ) → low ≡ number_low 4 b 0 → high ≡ number_low 4 (take (length b - 4) (drop 4 b)) 0 → low + high * 4294967296 ≡ number_low 8 b 0
-eight_read b low high e f = let g : high ≡ number_low 4 b 4 = f ∙ number_part 4 4 b 0 in omega arith
+pub low_four : (v : ℕ) → to_le_bytes w32 v ≡ low_first 4 v
+low_four v =
+    let second : v / 65536 ≡ v / 256 / 256 = omega arith in
+    let third : v / 16777216 ≡ v / 256 / 256 / 256 = omega arith in
+    simp (second, third)
 
--- the bytes that `put_eight` writes
-pub eight_bytes : (v : ℕ) → v < 2 ^ 64
-    → v % 256
-    ∷ v / 256 % 256
-    ∷ v / 65536 % 256
-    ∷ v / 16777216 % 256
-    ∷ v / 4294967296 % 256
-    ∷ v / 1099511627776 % 256
-    ∷ v / 281474976710656 % 256
-    ∷ v / 72057594037927936
-    ∷ []
-    ≡ low_first 8 v
-eight_bytes v h =
-    let e2 : v / 256 / 256 ≡ v / 65536 = omega arith in
-    let e3 : v / 65536 / 256 ≡ v / 16777216 = omega arith in
-    let e4 : v / 16777216 / 256 ≡ v / 4294967296 = omega arith in
-    let e5 : v / 4294967296 / 256 ≡ v / 1099511627776 = omega arith in
-    let e6 : v / 1099511627776 / 256 ≡ v / 281474976710656 = omega arith in
-    let e7 : v / 281474976710656 / 256 % 256 ≡ v / 72057594037927936 = omega arith in
-    simp (e2, e3, e4, e5, e6, e7)
+pub four_read : (b : List ℕ) (p : ℕ) → from_le_bytes w32 (slots b p 4) ≡ number_low 4 b p
+four_read b p = omega arith
+
+pub in_first : (k : ℕ) (l : List ℕ) (i : ℕ) → get_or (take k l) i 0 ≡ cond (ltb i k) (get_or l i 0) 0
+in_first k l i = go (ltb i k) refl
+  where
+    go : (b : Bool) → ltb i k ≡ b → get_or (take k l) i 0 ≡ cond b (get_or l i 0) 0
+    go true e = get_or-take k l i 0 (ltb-true i k e)
+    go false e = let h = ltb-false i k e in get_or-eq_default (take k l) 0 (omega (arith, length-take k l))

@@ -1,16 +1,17 @@
 -- `start` meets its contract: 9, then as a start.
-use Rattle.hearings.proofs.Close.{start_fits, start_short, start_taken, start_refused}
+use Rattle.std.specs.Prelude.{Ok}
 use borrow.Author.Rules.{rules}
+use Rattle.hearings.proofs.Close.{start_short, start_fits, start_refused, start_taken}
 use Rattle.hearings.proofs.start.Goals as goal
 
-pub returns-then-judge-lt42 : goal.returns-then-judge-lt42
-returns-then-judge-lt42 c = search start_short
+pub returns-in_err-judge : goal.returns-in_err-judge
+returns-in_err-judge c = start_short _ _ _ (search rules) (search rules)
+
+pub returns-in_err-started : goal.returns-in_err-started
+returns-in_err-started c = start_refused _ _ _ _ c.start-started.ensures (search rules) _ c.in_err-started.field-0.0 (search rules) (search rules) (search rules)
 
 pub put-requires : goal.put-requires
-put-requires c = (search start_fits, search rules)
+put-requires c = start_fits c.args.n c.args.judge.now (Ok tt) _ c.start-started.ensures (search rules)
 
-pub returns-in-Ok : goal.returns-in-Ok
-returns-in-Ok c = search start_taken
-
-pub returns-in-Err : goal.returns-in-Err
-returns-in-Err c = search start_refused
+pub returns : goal.returns
+returns c = start_taken _ _ (Ok tt) _ c.start-started.ensures (search rules) _ (search rules) c.put.ensures

@@ -1,15 +1,29 @@
 -- `step` meets its contract: 9 twice, 10, and then as a step.
-use Rattle.hearings.proofs.Close.{step_short_judge, step_short_broken, step_unknown, step_known}
+use Rattle.std.specs.Prelude.{Ok}
+use borrow.Author.Rules.{rules}
+use Rattle.hearings.proofs.Close.{step_short_judge, step_short_broken, step_unknown, step_refused, step_fits, step_taken}
 use Rattle.hearings.proofs.step.Goals as goal
 
-pub returns-then-judge-lt42 : goal.returns-then-judge-lt42
-returns-then-judge-lt42 c = search step_short_judge
+pub returns-in_err-judge : goal.returns-in_err-judge
+returns-in_err-judge c = step_short_judge _ _ _ _ (search rules) (search rules)
 
-pub returns-then-broken-lt4 : goal.returns-then-broken-lt4
-returns-then-broken-lt4 c = search step_short_broken
+pub returns-in_err-broken : goal.returns-in_err-broken
+returns-in_err-broken c = step_short_broken _ _ _ _ (search rules) _ (search rules) (search rules) (search rules)
 
-pub returns-then-not-docket : goal.returns-then-not-docket
-returns-then-not-docket c = search step_unknown
+pub returns-in_err-j : goal.returns-in_err-j
+returns-in_err-j c = step_unknown _ _ _ _ (search rules) _ (search rules) (search rules) _ (search rules) (search rules) (search rules)
+
+pub returns-in_err-ruled : goal.returns-in_err-ruled
+returns-in_err-ruled c =
+    step_refused _ _ _ _ (search rules) _ (search rules) (search rules) _ (search rules) c.in_ok-j.j (search rules) _ c.rule-ruled.ensures
+    c.in_err-ruled.field-0.0 (search rules) (search rules)
+
+pub put-requires : goal.put-requires
+put-requires c =
+    step_fits _ c.args.judge.now c.args.broken.now (Ok tt) (search rules) c.in_ok-judge.judge.now (search rules) (search rules) c.in_ok-broken.broken.now (search rules)
+    c.in_ok-j.j (search rules) _ c.rule-ruled.ensures (search rules)
 
 pub returns : goal.returns
-returns c = search step_known
+returns c =
+    step_taken _ _ _ (Ok tt) (search rules) c.in_ok-judge.judge.now (search rules) (search rules) c.in_ok-broken.broken.now (search rules)
+    c.in_ok-j.j (search rules) _ c.rule-ruled.ensures (search rules) _ _ c.put.ensures c.put_mask.ensures

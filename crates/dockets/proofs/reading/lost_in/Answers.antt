@@ -1,6 +1,8 @@
--- `lost_in` meets its contract. Invariant: the counts below i are read. Measure: the counts left.
-use Rattle.dockets.proofs.Parts.{read_next}
+-- `lost_in` meets its contract: the last sixteen bytes, and a call for each.
+use Rattle.dockets.proofs.Parts.{lost_read}
 use Rattle.dockets.proofs.reading.lost_in.Goals as goal
 
-pub loop-i-preserved : goal.loop-i-preserved
-loop-i-preserved c = search read_next
+pub returns : goal.returns
+returns c =
+    let chunk = rw c.unwrap-counts.ensures at c.last_chunk.ensures.cases in
+    lost_read c.args.b.now c.unwrap-counts.result.now _ c.told-b chunk.1.same c.map.ensures.items.long (λ k h. (c.map.ensures.items.at k 0 0 h).2.met)

@@ -1,0 +1,2 @@
+-- What the judge over lent bytes promises.
+pub mod Hearings
