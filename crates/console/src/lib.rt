@@ -8,7 +8,7 @@ ghost use Rattle.std.specs.Prelude.{◌≡◌, ◌-◌, ◌≤◌, ◌<◌, take
 ghost use Rattle.console.specs.Fed.{Fill};
 ghost use Rattle.console.specs.Ends.{letter_of, told_of, went_on, ended_with, Given};
 
-pub use program::{Program, begin, heading};
+pub use program::{Program, begin, heading, whole_lines};
 use std::fs::OpenOptions;
 use std::io::{ErrorKind, Read, Write};
 use std::os::unix::fs::PermissionsExt;

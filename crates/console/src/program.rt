@@ -6,7 +6,7 @@ ghost use Rattle.std.specs.Prelude.{◌≡◌, ◌-◌, ◌≤◌, ◌<◌, ℕ,
 ghost use Rattle.formats.specs.Results.{HeaderRead};
 ghost use Rattle.streams.specs.Streams.{Turn, stretch};
 ghost use Rattle.streams.specs.Blocks.{room_for, progress_of};
-ghost use Rattle.console.specs.Going.{Held};
+ghost use Rattle.console.specs.Going.{Lines, Held};
 ghost use Rattle.console.specs.Ends.{EndsAfter, Met, Answered, ends_of};
 ghost use Rattle.console.specs.Ran.{Turned, Ran, Begins};
 ghost use Rattle.console.specs.Programs.{Headed, headed_of, CutAt, Taken, Laws};
@@ -83,6 +83,14 @@ pub fn heading<K: Copy>(p: Progress<K>) -> Result<(usize, K), usize>
         Flow::Short => Err(p.written),
         Flow::Unformed => Err(p.written),
     }
+}
+
+// How many bytes of what was read are whole lines of so many bytes.
+pub fn whole_lines(width: usize, block: &[u8]) -> usize
+    requires { 1 ≤ width }
+    ensures { CutAt (Lines width) block.now result }
+{
+    block.len() - block.len() % width
 }
 
 // Writes what a block came to.
