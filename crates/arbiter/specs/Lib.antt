@@ -1,2 +1,3 @@
--- What the arbiter program's contracts cite beside the definitions of the other crates.
+-- What the arbiter program's contracts cite beside the definitions of the other crates, and its laws.
 pub mod Breaches
+pub mod Laws

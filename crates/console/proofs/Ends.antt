@@ -1,43 +1,50 @@
 -- How a program ends, case by case.
+--
+--   met       == what the answer of a block says is what its stretch says
+--   met_on    == where the program goes on, its stretch did
+--   met_came  == where it ends, that is what comes of its stretch
+--   ends_last, ends_stopped == the same at the end of the input
+use Rattle.std.specs.Prelude.{Result, Err, Ok}
 use Prim.Native.Nat.{ℕ}
-use mathlib.Core.Path.{◌≡◌, refl, sym, ◌∙◌, ap}
-use mathlib.Core.Bool.{Bool, true, false, ◌&&◌, cond}
+use mathlib.Core.Path.{◌≡◌, refl, ◌∙◌, ap}
+use mathlib.Core.Bool.{Bool, true, false, cond}
 use mathlib.Core.List.{List}
-use borrow.Author.Tests.{ne_eqb}
-use lib.Dec.{eqb}
-use Rattle.streams.specs.declared.Flow.{Flow}
+use native.Mathlib.Omega.{arith}
+use Rattle.streams.specs.declared.Progress.{Progress}
 use Rattle.streams.specs.Streams.{Stretch, on, done}
-use Rattle.streams.specs.Stays.{kept}
+use Rattle.streams.specs.Blocks.{progress_of}
 use Rattle.console.specs.declared.Ending.{Ending}
-use Rattle.console.specs.declared.Ending.TheVariants.{Done, Breaches, Refused, Unwritten}
+use Rattle.console.specs.declared.Ending.TheVariants.{Refused, Unwritten}
 use Rattle.console.specs.Going.{goes_on_after}
-use Rattle.console.specs.Ends.{ending_of, end_of, is_on, Came}
+use Rattle.console.specs.Ends.{ends_of, outcome, Answered, Met, EndsAfter, Came}
 
-module _ (given goes : Bool) (f : Flow) (breaches : ℕ) where
-  pub unwritten : given ≡ false → Unwritten ≡ ending_of given f breaches
-  unfolding ending_of
-  unwritten e = rw e
+module _ {S : Type 0} where
+  answer_is : (x : Stretch S) → cond (goes_on_after (progress_of x).flow) (Ok (progress_of x).kept) (Err Refused) ≡ outcome x
+  answer_is (on bytes s) = refl
+  answer_is (done bytes s) = refl
 
-  pub refused : given ≡ true → goes ≡ goes_on_after f → goes ≡ false → Refused ≡ ending_of given f breaches
-  unfolding ending_of
-  refused e g h = let k : goes_on_after f ≡ false = sym g ∙ h in rw (e, k)
+  pub met : (x : Stretch S) (p : Progress S) (r : Result S Ending) → p ≡ progress_of x → Answered p r → Met x r
+  met x p r e a = let b = rw e at a in (b.0, b.1 ∙ ap (λ (o : Result S Ending). cond b.0 o (Err Unwritten)) (answer_is x))
 
-  pub clean : given ≡ true → goes ≡ goes_on_after f → goes ≡ true → breaches ≡ 0 → Done ≡ ending_of given f breaches
-  unfolding ending_of
-  clean e g h b = let k : goes_on_after f ≡ true = sym g ∙ h in rw (e, k, b)
+  pub met_on : (x : Stretch S) (t : S) → Met x (Ok t) → (bytes : List ℕ) × (x ≡ on bytes t)
+  met_on x t m = go x m.0 m.1
+    where
+      go : (x : Stretch S) (given : Bool) → Ok t ≡ cond given (outcome x) (Err Unwritten) → (bytes : List ℕ) × (x ≡ on bytes t)
+      go (on bytes s) true e = let same : s ≡ t = cc in (bytes, ap (on bytes) same)
+      go (done bytes s) true e = let z : ◌≡◌ {A = ℕ} 0 1 = cc in absurd (omega arith)
+      go x false e = let z : ◌≡◌ {A = ℕ} 0 1 = cc in absurd (omega arith)
 
-  pub named : given ≡ true → goes ≡ goes_on_after f → goes ≡ true → (breaches ≡ 0 → ⊥) → Breaches ≡ ending_of given f breaches
-  unfolding ending_of
-  named e g h b = let k : goes_on_after f ≡ true = sym g ∙ h in simp (e, k, ne_eqb breaches 0 b)
+module _ {S : Type 0} (breaches : S → ℕ) where
+  pub met_came : (x : Stretch S) (e : Ending) → Met x (Err e) → Came breaches x false e
+  met_came x e m = go x m.0 m.1
+    where
+      go : (x : Stretch S) (given : Bool) → Err e ≡ cond given (outcome x) (Err Unwritten) → Came breaches x false e
+      go (on bytes s) true q = let z : ◌≡◌ {A = ℕ} 0 1 = cc in absurd (omega arith)
+      go (done bytes s) true q = record { given = true; flow = refl; ending = cc }
+      go x false q = record { given = false; flow = refl; ending = cc }
 
--- what the answer of a block says is what its stretch says
-pub came : {S : Type 0} (breaches : S → ℕ) (x : Stretch S) (f : Flow) (n : ℕ) (given goes further : Bool) (e : Ending)
-    → goes_on_after f ≡ is_on breaches x → n ≡ breaches (kept x) → goes ≡ goes_on_after f → further ≡ (given && goes) → e ≡ ending_of given f n → Came breaches x further e
-unfolding ending_of
-came {S = S} breaches x f n given goes further e same named g h k =
-    record { given = given; flow = h ∙ ap (λ (b : Bool). given && b) (g ∙ same); ending = k ∙ ap (λ (z : Ending). cond given z Unwritten) (is x same named) }
-  where
-    is : (x : Stretch S) → goes_on_after f ≡ is_on breaches x → n ≡ breaches (kept x)
-        → cond (goes_on_after f) (cond (eqb n 0) Done Breaches) Refused ≡ end_of breaches x
-    is (on bytes s) p q = rw (p, q)
-    is (done bytes s) p q = rw p
+  pub ends_stopped : (x : Stretch S) (e : Ending) → Met x (Err e) → EndsAfter breaches x e
+  ends_stopped x e m = let c = met_came x e m in (c.given, c.ending)
+
+  pub ends_last : (x : Stretch S) (t : S) (e : Ending) → Met x (Ok t) → (given : Bool) × (e ≡ ends_of given (breaches t)) → EndsAfter breaches x e
+  ends_last x t e m h = let o = met_on x t m in rw o.1 h

@@ -2,12 +2,18 @@
 --
 --   letter_of e            == the letter on descriptor 3
 --   told_of e unheard      == that letter, or the one that says why: nobody reads the output any more
---   ending_of given f n    == how a program ends whose output was given or not, after a block with the flow f, and with n breaches named
+--   Given r                == what a write came to: all was taken, or the program ends, its output not written
+--   went_on f              == whether a program goes on after a block with the flow f, or how it ends
+--   ended_with n           == how it ends at the end of its input, with n breaches named
+--   ends_of given n        == the same, where what it writes there was given or not
+--   Answered p r           == what comes of the answer p of a block, whose bytes were given or not: what is kept, or how the program ends
+--   Met x r                == the same of a stretch, by the definitions
 --   end_of breaches x      == how it ends by the definitions, after the stretch x of its input
 --   EndsAfter breaches x e == it ends so, or because its output could not be written
 --   Came breaches x on e  == what comes of a stretch: whether the program goes on, and how it ends if nothing follows
-use Rattle.std.specs.Prelude.{ℕ, ◌≡◌, Bool, true, false, ◌&&◌, cond, eqb}
+use Rattle.std.specs.Prelude.{ℕ, ◌≡◌, Bool, true, false, ◌&&◌, cond, eqb, Result, Err, Ok}
 use Rattle.streams.specs.declared.Flow.{Flow}
+use Rattle.streams.specs.declared.Progress.{Progress}
 use Rattle.streams.specs.Streams.{Stretch, on, done}
 use Rattle.console.specs.declared.Ending.{Ending}
 use Rattle.console.specs.declared.Ending.TheVariants.{Done, Breaches, Refused, Unread, Unwritten}
@@ -25,9 +31,29 @@ letter_of Unwritten = 119
 abbrev pub told_of : Ending → Bool → ℕ
 told_of e unheard = cond (unheard && eqb (letter_of e) 119) 112 (letter_of e)
 
+-- all bytes were taken, or the program ends so
+abbrev pub Given : Result Unit Ending → Type 0
+Given r = (given : Bool) × (r ≡ cond given (Ok tt) (Err Unwritten))
+
 -- a program that stops before its input has ended has refused it
-unfoldable pub ending_of : Bool → Flow → ℕ → Ending
-ending_of given f n = cond given (cond (goes_on_after f) (cond (eqb n 0) Done Breaches) Refused) Unwritten
+abbrev pub went_on : Flow → Result Unit Ending
+went_on f = cond (goes_on_after f) (Ok tt) (Err Refused)
+
+abbrev pub ended_with : ℕ → Ending
+ended_with n = cond (eqb n 0) Done Breaches
+
+abbrev pub ends_of : Bool → ℕ → Ending
+ends_of given n = cond given (ended_with n) Unwritten
+
+abbrev pub Answered : {S : Type 0} → Progress S → Result S Ending → Type 0
+Answered p r = (given : Bool) × (r ≡ cond given (cond (goes_on_after p.flow) (Ok p.kept) (Err Refused)) (Err Unwritten))
+
+abbrev pub outcome : {S : Type 0} → Stretch S → Result S Ending
+outcome (on bytes s) = Ok s
+outcome (done bytes s) = Err Refused
+
+abbrev pub Met : {S : Type 0} → Stretch S → Result S Ending → Type 0
+Met x r = (given : Bool) × (r ≡ cond given (outcome x) (Err Unwritten))
 
 module _ {S : Type 0} (breaches : S → ℕ) where
   abbrev pub end_of : Stretch S → Ending

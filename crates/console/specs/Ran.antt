@@ -1,10 +1,10 @@
 -- A program from its header to its end: how it goes from read to read, and what it ends with.
 --
 --   Closes .. Cut s old e == in the state s, with the bytes old kept, the program ends as e says
---   Turned ..             == one read: the program went on, or it ends
+--   Turned .. old new r   == one read, with the bytes old kept: the program went on, and as many bytes of the buffer new are kept as r says, or it ends
 --   Ran .. s e            == from the state s on the program went on any number of times, and then ended
 --   Begins .. h e         == after the header h the program ends as e says
-use Rattle.std.specs.Prelude.{ℕ, ◌≤◌, ◌≡◌, Bool, true, false, List, [], ◌++◌, length, Err, Ok}
+use Rattle.std.specs.Prelude.{ℕ, ◌≤◌, ◌≡◌, false, List, [], ◌++◌, length, take, Result, Err, Ok}
 use Rattle.rules.specs.declared.Refusal.{Refusal}
 use Rattle.formats.specs.Results.{HeaderRead}
 use Rattle.streams.specs.Streams.{Turn, stretch}
@@ -21,9 +21,9 @@ module _ {S : Type 0} (breaches : S → ℕ) (turn : S → List ℕ → Turn S) 
     stopped : (read lines rest : List ℕ) → 1 ≤ length read → old ++ read ≡ lines ++ rest → Cut lines rest
         → Came breaches (stretch turn (length lines) s lines) false e → Closes Cut s old e
 
-  pub record Turned (Cut : List ℕ → List ℕ → Type 0) (s : S) (old : List ℕ) (goes : Bool) (t : S) (new : List ℕ) (e : Ending) : Type 0 where
-    pub further : goes ≡ true → Onward turn Cut s old t new
-    pub closes : goes ≡ false → Closes Cut s old e
+  pub data Turned (Cut : List ℕ → List ℕ → Type 0) (s : S) (old new : List ℕ) : Result (S × ℕ) Ending → Type 0 where
+    further : {t : S} {k : ℕ} → Onward turn Cut s old t (take k new) → Turned Cut s old new (Ok (t, k))
+    closes : {e : Ending} → Closes Cut s old e → Turned Cut s old new (Err e)
 
   pub record Ran (Cut : List ℕ → List ℕ → Type 0) (s : S) (e : Ending) : Type 0 where
     pub at : S

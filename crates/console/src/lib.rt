@@ -1,34 +1,98 @@
-// A reader as it comes, a writer, and the word that a program ends with. The contracts say where in a buffer the bytes stand that a read brought,
-// and what the functions that only sort an answer return.
+// A reader as it comes, a writer, and the word that a program ends with; and a program from its header to its end. The contracts say where in a
+// buffer the bytes stand that a read brought, and what the functions that only sort an answer return.
 #![tactic(auto)]
+
+mod program;
 
 ghost use Rattle.std.specs.Prelude.{◌≡◌, ◌-◌, ◌≤◌, ◌<◌, take, drop, length};
 ghost use Rattle.console.specs.Fed.{Fill};
-ghost use Rattle.console.specs.Going.{goes_on_after};
-ghost use Rattle.console.specs.Ends.{letter_of, told_of, ending_of};
+ghost use Rattle.console.specs.Ends.{letter_of, told_of, went_on, ended_with, Given};
 
+pub use program::{Program, begin, heading, whole_lines};
 use std::fs::OpenOptions;
 use std::io::{ErrorKind, Read, Write};
 use std::os::unix::fs::PermissionsExt;
 use std::rt::Files;
 use streams::Flow;
 
-// What a read came to: so many bytes stand in the buffer and more may come, or no more come, or it failed.
-#[derive(Clone, Copy)]
-pub enum Fed {
-    More(usize),
-    Last(usize),
-    Broken,
-}
-
 // How a program ends: done, done with breaches named, its input refused, its input not read, its output not written.
-#[derive(Clone, Copy)]
+#[derive(Clone, Copy, Debug, PartialEq, Eq)]
 pub enum Ending {
     Done,
     Breaches,
     Refused,
     Unread,
     Unwritten,
+}
+
+// One read, behind the bytes that are kept in the buffer: how many bytes stand in it then, or that no more come. One that a signal interrupts has
+// failed.
+pub fn read_on<R: Read>(input: &mut R, kept: usize, buf: &mut [u8]) -> Result<Option<usize>, Ending>
+    requires { kept < length buf.old }
+    ensures { Fill result kept buf.old buf.new }
+{
+    match input.read(&mut buf[kept..]) {
+        Ok(0) => Ok(None),
+        Ok(n) => Ok(Some(kept + n)),
+        Err(_) => Err(Ending::Unread),
+    }
+}
+
+// The bytes from one place to another go to the front of the buffer.
+pub fn keep(from: usize, to: usize, buf: &mut [u8])
+    requires order { from ≤ to }
+    requires inside { to ≤ length buf.old }
+    ensures { take (to - from) buf.new ≡ drop from (take to buf.old) }
+{
+    buf.copy_within(from..to, 0);
+}
+
+// Reads until the buffer is full, the input has ended or a read fails. Says how many bytes stand at the front.
+// Stays: std's read_exact reads again after a signal, and does not say how many bytes it read before a failure.
+fn read_full<R: Read>(input: &mut R, buf: &mut [u8]) -> usize
+    ensures { result ≤ length buf.new }
+{
+    let mut done = 0;
+    while done < buf.len() {
+        match input.read(&mut buf[done..]) {
+            Ok(0) | Err(_) => break,
+            Ok(n) => done += n,
+        }
+    }
+    done
+}
+
+// A header: as many bytes as one with a single digit has, and one more where the last of them is no LF.
+pub fn read_head<R: Read>(input: &mut R, size: usize, buf: &mut [u8]) -> Result<usize, Ending> {
+    if size == 0 || buf.len() <= size {
+        return Err(Ending::Unread);
+    }
+    let n = read_full(input, &mut buf[..size]);
+    if n < size {
+        return ended(input, n);
+    }
+    if buf[size - 1] == b'\n' {
+        return Ok(size);
+    }
+    match read_full(input, &mut buf[size..size + 1]) {
+        0 => ended(input, size),
+        _ => Ok(size + 1),
+    }
+}
+
+// A header that fell short: the input has ended only where one read more says so, and else it could not be read.
+fn ended<R: Read>(input: &mut R, n: usize) -> Result<usize, Ending> {
+    match input.read(&mut [0u8; 1]) {
+        Ok(0) => Ok(n),
+        _ => Err(Ending::Unread),
+    }
+}
+
+// The first n bytes, or all where there are fewer.
+pub fn first(n: usize, buf: &[u8]) -> &[u8]
+    ensures { result.now ≡ take n buf.now }
+{
+    buf.get(..n).unwrap_or(buf)
 }
 
 // Where a program writes, and whether a write has found that nobody reads there any more.
@@ -44,137 +108,43 @@ impl<W> Output<W> {
     }
 }
 
-// One read into a buffer. One that a signal interrupts has failed.
-fn read_some<R: Read>(input: &mut R, buf: &mut [u8]) -> Fed
-    ensures { Fill result 0 buf.old buf.new }
-{
-    match input.read(buf) {
-        Ok(0) => Fed::Last(0),
-        Ok(n) => Fed::More(n),
-        Err(_) => Fed::Broken,
-    }
-}
-
-// One read, behind the bytes that are kept in the buffer.
-pub fn read_on<R: Read>(input: &mut R, kept: usize, buf: &mut [u8]) -> Fed
-    requires { kept < length buf.old }
-    ensures { Fill result kept buf.old buf.new }
-{
-    match read_some(input, &mut buf[kept..]) {
-        Fed::More(n) => Fed::More(kept + n),
-        Fed::Last(_) => Fed::Last(kept),
-        Fed::Broken => Fed::Broken,
-    }
-}
-
-// The bytes from one place to another go to the front of the buffer.
-pub fn keep(from: usize, to: usize, buf: &mut [u8])
-    requires order { from ≤ to }
-    requires inside { to ≤ length buf.old }
-    ensures { take (to - from) buf.new ≡ drop from (take to buf.old) }
-{
-    buf.copy_within(from..to, 0);
-}
-
-// Reads until the buffer is full, the input has ended or a read fails. Says how many bytes stand at the front.
-fn read_full<R: Read>(input: &mut R, buf: &mut [u8]) -> usize
-    ensures { result ≤ length buf.new }
-{
-    let mut done = 0;
-    while done < buf.len() {
-        match read_some(input, &mut buf[done..]) {
-            Fed::More(n) => done += n,
-            Fed::Last(_) => return done,
-            Fed::Broken => return done,
-        }
-    }
-    done
-}
-
-// A header: as many bytes as one with a single digit has, and one more where the last of them is no LF.
-pub fn read_head<R: Read>(input: &mut R, size: usize, buf: &mut [u8]) -> Fed {
-    if size == 0 {
-        return Fed::Broken;
-    }
-    if buf.len() <= size {
-        return Fed::Broken;
-    }
-    let n = read_full(input, &mut buf[..size]);
-    if n < size {
-        return ended(input, n);
-    }
-    if buf[size - 1] == b'\n' {
-        return Fed::More(size);
-    }
-    let more = read_full(input, &mut buf[size..size + 1]);
-    if more == 0 {
-        return ended(input, size);
-    }
-    Fed::More(size + 1)
-}
-
-// A header that fell short: the input has ended only where one read more says so, and else it could not be read.
-fn ended<R: Read>(input: &mut R, n: usize) -> Fed {
-    let mut one = [0u8; 1];
-    match read_some(input, &mut one) {
-        Fed::More(_) => Fed::Broken,
-        Fed::Last(_) => Fed::Last(n),
-        Fed::Broken => Fed::Broken,
-    }
-}
-
-// The first n bytes, or all where there are fewer.
-pub fn first(n: usize, buf: &[u8]) -> &[u8]
-    ensures { result.now ≡ take n buf.now }
-{
-    if n < buf.len() { &buf[..n] } else { buf }
-}
-
-// Writes the first n bytes, and says whether all of them were taken.
-pub fn give<W: Write>(output: &mut Output<W>, n: usize, buf: &[u8]) -> bool {
-    write_whole(output, first(n, buf))
-}
-
-// Writes all bytes, or stops at the first write that takes nothing or fails, one too that a signal interrupts.
-fn write_whole<W: Write>(output: &mut Output<W>, bytes: &[u8]) -> bool {
-    let mut done = 0;
-    while done < bytes.len() {
-        match output.to.write(&bytes[done..]) {
-            Ok(0) => return false,
-            Ok(n) => done += n,
-            Err(e) => {
-                output.unheard = e.kind() == ErrorKind::BrokenPipe;
-                return false;
+impl<W: Write> Output<W> {
+    // Writes all bytes, or stops at the first write that takes nothing or fails, one too that a signal interrupts.
+    // Stays: std's write_all writes again after a signal.
+    pub fn give(&mut self, bytes: &[u8]) -> Result<(), Ending>
+        ensures { Given result }
+    {
+        let mut done = 0;
+        while done < bytes.len() {
+            match self.to.write(&bytes[done..]) {
+                Ok(0) => return Err(Ending::Unwritten),
+                Ok(n) => done += n,
+                Err(e) => {
+                    self.unheard = e.kind() == ErrorKind::BrokenPipe;
+                    return Err(Ending::Unwritten);
+                }
             }
         }
+        Ok(())
     }
-    true
 }
 
-// Whether a program goes on after a block.
-pub fn goes_on(f: Flow) -> bool
-    ensures { result ≡ goes_on_after f }
+// Whether a program goes on after a block: one that stops before its input has ended has refused it.
+pub fn goes_on(f: Flow) -> Result<(), Ending>
+    ensures { result ≡ went_on f }
 {
     match f {
-        Flow::GoesOn => true,
-        Flow::Stopped => false,
-        Flow::Short => false,
-        Flow::Unformed => false,
+        Flow::GoesOn => Ok(()),
+        Flow::Stopped => Err(Ending::Refused),
+        Flow::Short => Err(Ending::Refused),
+        Flow::Unformed => Err(Ending::Refused),
     }
 }
 
-// How a program ends that wrote what a block came to, or could not, and has named so many breaches.
-#[tactic(auto, unfolding(crate::specs::Ends::ending_of))]
-pub fn ends_as(given: bool, f: Flow, breaches: u32) -> Ending
-    ensures { result ≡ ending_of given f breaches }
+// How a program ends that has come to the end of its input, and has named so many breaches.
+pub fn ends_as(breaches: u32) -> Ending
+    ensures { result ≡ ended_with breaches }
 {
-    let goes = goes_on(f);
-    if !given {
-        return Ending::Unwritten;
-    }
-    if !goes {
-        return Ending::Refused;
-    }
     if breaches == 0 {
         Ending::Done
     } else {

@@ -56,7 +56,7 @@ arbiter_stays_formed = (
   λ s block e. test_of _ (stays_formed arbiter_program_lem (length block) s block (facts_of s e)),
 )
 
-tally_test : (b : Tally) → Formed b → tally_formed b ≡ true
+pub tally_test : (b : Tally) → Formed b → tally_formed b ≡ true
 unfolding tally_formed
 tally_test b f = and_both (judge_test b.judge f.judge) (le-leb b.breaches (21 * b.judge.count) f.few)
 

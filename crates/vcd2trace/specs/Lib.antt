@@ -1,2 +1,3 @@
--- What the contracts of vcd2trace cite beside the definitions of the other crates.
+-- What the contracts of vcd2trace cite beside the definitions of the other crates, and its laws.
 pub mod Answers
+pub mod Laws
