@@ -1,6 +1,5 @@
 -- The ends of the judge's two calls, over plain values: J and B are the lent buffers, which begin with the bytes h and m.
 --
---   put_back   == a buffer whose first bytes are put back is as it was
 --   start_short, start_fits, start_refused, start_taken == the ends of a start
 --   step_short_judge, step_short_broken, step_unknown, step_fits, step_refused, step_taken == the ends of a step
 --   step_called, start_called == the number of a verdict is what the call from C answers
@@ -10,7 +9,7 @@ use mathlib.Core.Path.{◌≡◌, refl, sym, ◌∙◌, ap}
 use mathlib.Core.Bool.{Bool, true, false}
 use mathlib.Core.List.{List, ◌++◌}
 use native.Mathlib.Omega.{arith}
-use lib.ListN.{length, take, drop, length-drop, take-append-drop}
+use lib.ListN.{length, take, drop, length-drop}
 use lib.Seq.{length-take-le}
 use Rattle.std.proofs.lemmas.Option.{same_Some}
 use Rattle.rules.specs.declared.Refusal.{Refusal}
@@ -28,15 +27,13 @@ use Rattle.rulebook.proofs.Answers.{taken, next_judge_lem, begun}
 use Rattle.judging.specs.declared.Ruled.{Ruled}
 use Rattle.judging.specs.Ruled.{ruled_of}
 use Rattle.words.specs.Words.{low_first}
+use Rattle.words.proofs.Words.{put_back}
 use Rattle.docketing.specs.Bytes.{judge_bytes, is_judge, judge_in, bytes_judge}
 use Rattle.docketing.specs.Fits.{JudgeFits}
 use Rattle.docketing.specs.Calls.{ruling_of, of_docket, judge_step, judge_stored, mask_stored, Ruling, judge_number, JudgeStepCall, JudgeStartCall}
 use Rattle.hearings.specs.Hearings.{verdict_of, JudgeSteps, JudgeStarts}
 use Rattle.docketing.proofs.Bytes.{judge_fits, first_judge}
 use Rattle.docketing.proofs.Calls.{short_judge, short_broken, short_start, long_enough, plain_start}
-
-pub put_back : (k : ℕ) (l first : List ℕ) → first ≡ take k l → first ++ drop k l ≡ l
-put_back k l first e = rw e (take-append-drop k l)
 
 -- a start: v is its answer, and a that of the judge
 module _ (n : ℕ) (J : List ℕ) (v : Verdict) where

@@ -33,7 +33,7 @@ fits_of n x many e =
       burst = w.burst;
     }
 
-good_of : (c : Check) → passes c ≡ true → c ≡ Ok tt
+pub good_of : (c : Check) → passes c ≡ true → c ≡ Ok tt
 good_of (Ok _) e = refl
 good_of (Err r) e = absurd (false≢true e)
 

@@ -1,6 +1,7 @@
 // The judge's start and step, exported to C. include/espigambre.h declares them for C.
 ghost use Rattle.docketing.specs.Calls.{recorded, JudgeStepCall, JudgeStartCall};
 
+use crate::number;
 use rules::{Cycle, Inputs, Outputs};
 
 // The start judge of n masters into the lent bytes: 9, 1.
@@ -8,7 +9,7 @@ use rules::{Cycle, Inputs, Outputs};
 pub extern "C" fn espigambre_judge_start(n: u32, judge: &mut [u8]) -> u32
     ensures { JudgeStartCall n judge.old result judge.new }
 {
-    hearings::start(n, judge)
+    number(hearings::start(n, judge))
 }
 
 // One recorded cycle of the judge in the lent bytes: 9, then as a step. The mask of the rules broken at it goes to the second buffer.
@@ -47,5 +48,5 @@ pub extern "C" fn espigambre_judge_step(
             busreq,
         },
     };
-    hearings::step(c, judge, broken)
+    number(hearings::step(c, judge, broken))
 }

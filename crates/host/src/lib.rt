@@ -1,111 +1,34 @@
 // The step and the reset, exported to a C simulator. include/espigambre.h declares them for C.
 #![tactic(auto)]
 
+mod cycle;
 mod judge;
 
-ghost use Rattle.std.specs.Prelude.{◌≡◌, ◌+◌, ◌*◌, ◌≤◌, length};
-ghost use Rattle.std.proofs.lemmas.List.Edits.{sets};
-ghost use Rattle.rules.specs.Valid.{inputs_check};
-ghost use Rattle.hosting.specs.Bytes.{bytes_state};
-ghost use Rattle.hosting.specs.Calls.{lent, output_bytes, as_line, as_numbers, of_lent, host_number, StepCall, ResetCall};
-ghost use Rattle.host.specs.Tests.{passes};
-ghost use Rattle.host.specs.Entry.{Takes, Enters, Took, Small, outputs_in};
+ghost use Rattle.std.specs.Prelude.{◌≡◌};
+ghost use Rattle.rulebook.specs.Step.{number_of};
+ghost use Rattle.hosting.specs.Calls.{lent, as_line, as_numbers, StepCall, ResetCall};
 
-use buses::Bus;
-use rules::{Cycle, Inputs, Outputs};
+use octets::Held;
+use rules::{Cycle, Inputs, Refusal};
 
-// Whether a stimulus is valid for n, with few tests.
-fn valid(n: u32, x: Inputs) -> bool
-    requires { n ≤ 16 }
-    ensures { result ≡ passes (inputs_check n x) }
+// The number that a call answers: 0, or that of its refusal.
+fn number(verdict: Result<(), Refusal>) -> u32
+    ensures { result ≡ number_of verdict }
 {
-    ((x.hbusreq | x.hlock) >> n == 0)
-        & (x.hready <= 1)
-        & (x.htrans <= 3)
-        & !(x.htrans == 1)
-        & (x.hburst <= 3)
-        & !(x.hburst == 2)
-}
-
-// The number that a step of the bytes answers: that of its refusal, 10, 8, 4, 5 or 6.
-fn refusal(b: &[u8], x: Inputs) -> u32
-    requires { 12 ≤ length b.now }
-    ensures { result ≡ host_number (of_lent (bytes_state b.now) x) }
-{
-    let held = octets::see(b);
-    let s = held.bus;
-    if !held.sound {
-        return 10;
-    }
-    if 1000000 <= s.count {
-        return 8;
-    }
-    match signals::check_inputs(held.n, x) {
+    match verdict {
         Ok(()) => 0,
         Err(r) => signals::number(r),
     }
 }
 
-// What a step comes to before it is taken: its number, and where that is 0 the state in plain numbers.
-#[derive(Clone, Copy)]
-struct Entry {
-    answer: u32,
-    n: u32,
-    bus: Bus,
-}
-
-// The tests of a step but for 9, in few tests where all are passed.
-fn enter(state: &[u8], x: Inputs) -> Entry
-    requires { 12 ≤ length state.now }
-    ensures { Enters state.now x result.answer result.n result.bus }
+fn step_outputs(x: Inputs, state: &mut [u8], outputs: &mut [u8]) -> Result<(), Refusal>
+    ensures { StepCall as_numbers x state.old outputs.old (number_of result) state.new outputs.new }
 {
-    let held = octets::see(state);
-    let bus = held.bus;
-    if !(held.sound & (bus.count < 1000000)) {
-        return Entry {
-            answer: refusal(state, x),
-            n: held.n,
-            bus,
-        };
-    }
-    if !valid(held.n, x) {
-        return Entry {
-            answer: refusal(state, x),
-            n: held.n,
-            bus,
-        };
-    }
-    Entry {
-        answer: 0,
-        n: held.n,
-        bus,
-    }
-}
-
-// A cycle that a step takes: the bytes of the state after it, and what was shown in it.
-fn take(n: u32, b: Bus, x: Inputs, state: &mut [u8]) -> Outputs
-    requires { Takes n b x × (12 ≤ length state.old) }
-    ensures { Took n b x result state.old state.new }
-{
-    let went = buses::advance(n, b, x);
-    let after = went.bus;
-    octets::put(n, after, state);
-    went.outputs
-}
-
-// Writes the outputs of a cycle as numbers.
-fn put_numbers(o: Outputs, shown: &mut [u8])
-    requires { (8 ≤ length shown.old) × Small o }
-    ensures { shown.new ≡ sets shown.old 0 (output_bytes o) }
-{
-    shown[0] = (o.hgrant % 256) as u8;
-    shown[1] = (o.hgrant / 256 % 256) as u8;
-    shown[2] = o.hmaster as u8;
-    shown[3] = o.hmastlock as u8;
-    shown[4] = o.decide as u8;
-    shown[5] = o.granted as u8;
-    shown[6] = o.busreq as u8;
-    shown[7] = 0;
+    let state = state.first_chunk_mut().ok_or(Refusal::Short)?;
+    let outputs = outputs.first_chunk_mut().ok_or(Refusal::Short)?;
+    let shown = cycle::run(x, state)?;
+    *outputs = cycle::output_bytes(shown);
+    Ok(())
 }
 
 // One cycle of the state in the lent bytes: 9, then as a step. The outputs of the cycle go to the second buffer as numbers.
@@ -121,12 +44,6 @@ pub extern "C" fn espigambre_step_outputs(
 ) -> u32
     ensures { StepCall as_numbers (lent hbusreq hlock hready htrans hburst) state.old outputs.old result state.new outputs.new }
 {
-    if state.len() < 12 {
-        return 9;
-    }
-    if outputs.len() < 8 {
-        return 9;
-    }
     let x = Inputs {
         hbusreq,
         hlock,
@@ -134,41 +51,18 @@ pub extern "C" fn espigambre_step_outputs(
         htrans,
         hburst,
     };
-    let e = enter(state, x);
-    if e.answer != 0 {
-        return e.answer;
-    }
-    let b = e.bus;
-    let o = take(e.n, b, x, state);
-    put_numbers(o, outputs);
-    0
+    number(step_outputs(x, state, outputs))
 }
 
-fn wide(b: u8) -> u32
-    ensures { result ≡ b }
+fn step_line(x: Inputs, state: &mut [u8], line: &mut [u8]) -> Result<(), Refusal>
+    ensures { StepCall as_line x state.old line.old (number_of result) state.new line.new }
 {
-    b as u32
-}
-
-fn pair(low: u8, high: u8) -> u32
-    ensures { result ≡ low + high * 256 }
-{
-    low as u32 + high as u32 * 256
-}
-
-// The outputs that eight bytes write.
-fn numbers(b: &[u8]) -> Outputs
-    requires { 8 ≤ length b.now }
-    ensures { result ≡ outputs_in b.now }
-{
-    Outputs {
-        hgrant: pair(b[0], b[1]),
-        hmaster: wide(b[2]),
-        hmastlock: wide(b[3]),
-        decide: wide(b[4]),
-        granted: wide(b[5]),
-        busreq: wide(b[6]),
-    }
+    let state = state.first_chunk_mut().ok_or(Refusal::Short)?;
+    let line: &mut [u8; 31] = line.first_chunk_mut().ok_or(Refusal::Short)?;
+    let g = state[1].into();
+    let outputs = cycle::run(x, state)?;
+    prints::put_line(g, Cycle { inputs: x, outputs }, line);
+    Ok(())
 }
 
 // The same, and the line of the cycle goes to the second buffer.
@@ -184,31 +78,24 @@ pub extern "C" fn espigambre_step(
 ) -> u32
     ensures { StepCall as_line (lent hbusreq hlock hready htrans hburst) state.old line.old result state.new line.new }
 {
-    if state.len() < 12 {
-        return 9;
-    }
-    if line.len() < 31 {
-        return 9;
-    }
-    let g = wide(state[1]);
-    let mut shown = [0u8; 8];
-    let answer = espigambre_step_outputs(hbusreq, hlock, hready, htrans, hburst, state, &mut shown);
-    if answer != 0 {
-        return answer;
-    }
-    let outputs = numbers(&shown);
-    let c = Cycle {
-        inputs: Inputs {
-            hbusreq,
-            hlock,
-            hready,
-            htrans,
-            hburst,
-        },
-        outputs,
+    let x = Inputs {
+        hbusreq,
+        hlock,
+        hready,
+        htrans,
+        hburst,
     };
-    prints::put_line(g, c, line);
-    0
+    number(step_line(x, state, line))
+}
+
+fn reset(n: u32, state: &mut [u8]) -> Result<(), Refusal>
+    ensures { ResetCall n state.old (number_of result) state.new }
+{
+    let state = state.first_chunk_mut().ok_or(Refusal::Short)?;
+    let start = arbitration::reset(n)?;
+    let bus = buses::bus_of(start);
+    octets::put(Held { n: start.n, bus }, state);
+    Ok(())
 }
 
 // The reset state of n masters into the lent bytes: 9, 1.
@@ -216,15 +103,5 @@ pub extern "C" fn espigambre_step(
 pub extern "C" fn espigambre_reset(n: u32, state: &mut [u8]) -> u32
     ensures { ResetCall n state.old result state.new }
 {
-    if state.len() < 12 {
-        return 9;
-    }
-    match arbitration::reset(n) {
-        Err(r) => signals::number(r),
-        Ok(s) => {
-            let b = buses::bus_of(s);
-            octets::put(s.n, b, state);
-            0
-        }
-    }
+    number(reset(n, state))
 }

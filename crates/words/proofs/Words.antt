@@ -11,16 +11,17 @@
 --   number_part     == the number in such a slice
 --   number_below    == w bytes write a number below 256 ^ w
 --   in_first        == an element of the first k, in a form that computes where the numbers are literals
+--   put_back        == a list whose first elements are put back is as it was
 --   low_four, four_read == the four bytes of a number, and the number of four bytes, as the library has them
 use Prim.Native.Nat.{ℕ, zero, suc, ◌+◌, ◌-◌, ◌/◌, ◌%◌, ◌^◌, ◌≤◌, ◌<◌}
 use mathlib.Core.Path.{◌≡◌, refl, sym, ◌∙◌}
 use mathlib.Core.Bool.{Bool, true, false, cond}
-use mathlib.Core.List.{List, [], ◌∷◌}
+use mathlib.Core.List.{List, [], ◌∷◌, ◌++◌}
 use native.Mathlib.Omega.{arith}
 use native.Mathlib.Numerals.{add-one}
 use borrow.Author.Tests.{ltb-true, ltb-false}
 use lib.Dec.{ltb}
-use lib.ListN.{get_or-eq_default, length-take, length, get_or, take, drop, length-drop, drop_of_length-le}
+use lib.ListN.{take-append-drop, get_or-eq_default, length-take, length, get_or, take, drop, length-drop, drop_of_length-le}
 use Rattle.std.proofs.lemmas.List.{get_or-take}
 use lib.Seq.{drop-cons, take_all, get_or-drop}
 use Rattle.std.specs.Int.{w32, to_le_bytes, from_le_bytes}
@@ -108,3 +109,6 @@ in_first k l i = go (ltb i k) refl
     go : (b : Bool) → ltb i k ≡ b → get_or (take k l) i 0 ≡ cond b (get_or l i 0) 0
     go true e = get_or-take k l i 0 (ltb-true i k e)
     go false e = let h = ltb-false i k e in get_or-eq_default (take k l) 0 (omega (arith, length-take k l))
+
+pub put_back : (k : ℕ) (l first : List ℕ) → first ≡ take k l → first ++ drop k l ≡ l
+put_back k l first e = rw e (take-append-drop k l)
