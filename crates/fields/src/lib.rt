@@ -71,6 +71,7 @@ pub fn stimulus_parted(s: &[u8], p: usize) -> bool
 }
 
 // Whether each separator of a trace line at p stands in its place.
+// Stays: beside the other a row of comparisons, where a table of places would need a proof that each is inside the line.
 pub fn trace_parted(s: &[u8], p: usize) -> bool
     requires { p + 31 ≤ length s.now }
     ensures { result ≡ parted trace_fields s.now p }
@@ -116,14 +117,5 @@ pub fn put_digit(buf: &mut [u8], at: usize, v: u32, after: u8)
     ensures { buf.new ≡ sets buf.old at (hex 1 v ++ (after ∷ [])) }
 {
     buf[at] = hex_char(v % 16);
-    buf[at + 1] = after;
-}
-
-// The same of a number that is known to be below ten: one addition.
-pub fn put_small(buf: &mut [u8], at: usize, v: u32, after: u8)
-    requires { (at + 2 ≤ length buf.old) × (v < 10) }
-    ensures { buf.new ≡ sets buf.old at (hex 1 v ++ (after ∷ [])) }
-{
-    buf[at] = 48 + v as u8;
     buf[at + 1] = after;
 }

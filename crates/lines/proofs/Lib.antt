@@ -1,4 +1,2 @@
-pub mod Spots
-pub mod Close
-pub mod Small
+pub mod Reading
 pub mod Unique

@@ -1,2 +1,1 @@
-pub mod Spots
-pub mod Small
+pub mod Lines
