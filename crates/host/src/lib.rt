@@ -17,7 +17,7 @@ fn number(verdict: Result<(), Refusal>) -> u32
 {
     match verdict {
         Ok(()) => 0,
-        Err(r) => signals::number(r),
+        Err(r) => u32::from(r),
     }
 }
 
