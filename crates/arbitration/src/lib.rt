@@ -13,7 +13,7 @@ use rules::{Inputs, Outputs, Phase, Refusal, State};
 pub fn reset(n: u32) -> Result<State, Refusal>
     ensures { result ≡ reset_of n }
 {
-    if (2 <= n) & (n <= 16) {
+    if signals::masters_ok(n) {
         Ok(State {
             n,
             g: 0,
@@ -43,15 +43,9 @@ fn phase_ok(p: Phase, granted: bool, lock: bool) -> bool
 pub fn well_formed(s: State) -> bool
     ensures { result ≡ well_formed s }
 {
-    let p = s.phase;
-    let ok = phase_ok(p, s.granted, s.hmastlock);
-    (2 <= s.n)
-        & (s.n <= 16)
-        & (s.g < s.n)
-        & (s.m < s.n)
-        & (s.granted | (s.g == s.m))
-        & ok
-        & (s.count <= 1000000)
+    let masters = signals::masters_ok(s.n);
+    let phase = phase_ok(s.phase, s.granted, s.hmastlock);
+    masters & (s.g < s.n) & (s.m < s.n) & (s.granted | (s.g == s.m)) & phase & (s.count <= 1000000)
 }
 
 // A cycle of a well-formed state below the count limit, whose inputs are valid for n.

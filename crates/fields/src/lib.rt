@@ -5,19 +5,12 @@ pub mod text;
 
 ghost use Rattle.std.specs.Prelude.{◌≡◌, ◌+◌, ◌<◌, ◌≤◌, [], ◌∷◌, ◌++◌, length, if◌then◌else◌, nat_lt};
 ghost use Rattle.std.proofs.lemmas.List.Edits.{sets};
-ghost use Rattle.rules.specs.State.{masters_ok};
 ghost use Rattle.formats.specs.Digits.{hex_char, hex_digit, hex, number_at};
 ghost use Rattle.formats.specs.Fields.{parted};
 ghost use Rattle.formats.specs.Lines.{stimulus_fields, trace_fields, for_masters};
 
 use rules::Refusal;
-
-// n from 2 to 16.
-pub fn masters_ok(n: u32) -> bool
-    ensures { result ≡ masters_ok n }
-{
-    (2 <= n) & (n <= 16)
-}
+pub use signals::masters_ok;
 
 // The first test of a writer: 1, before what the others found.
 pub fn for_masters(n: u32, k: Result<(), Refusal>) -> Result<(), Refusal>

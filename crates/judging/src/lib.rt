@@ -34,7 +34,7 @@ fn start_judge(n: u32) -> Judge
 pub fn start(n: u32) -> Started
     ensures { result ≡ start_of n }
 {
-    if (2 <= n) & (n <= 16) {
+    if signals::masters_ok(n) {
         Started {
             judge: start_judge(n),
             verdict: Ok(()),
@@ -51,12 +51,12 @@ pub fn start(n: u32) -> Started
 pub fn well_formed(j: Judge) -> bool
     ensures { result ≡ well_formed j }
 {
+    let masters = signals::masters_ok(j.n);
     let good = signals::check_cycle(j.n, j.previous).is_ok();
     let wrong = form::some_wrong(j.n, j.lost);
     let watch = form::watch_ok(j.opened, j.watch);
     let start = form::start_ok(j);
-    (2 <= j.n)
-        & (j.n <= 16)
+    masters
         & (j.count <= 1000000)
         & good
         & (j.locked < 1024)

@@ -5,6 +5,7 @@ ghost use Rattle.std.specs.Prelude.{◌≡◌, Bool, cond, ltb};
 ghost use Rattle.rules.specs.Refusals.{number_of, first_of};
 ghost use Rattle.rules.specs.Codes.{burst_of, no_code, not_built};
 ghost use Rattle.rules.specs.Masks.{high, single, names_absent};
+ghost use Rattle.rules.specs.State.{masters_ok};
 ghost use Rattle.rules.specs.Valid.{inputs_too_large, outputs_too_large, inputs_not_built, inputs_absent, inputs_check, cycle_check};
 
 use rules::{Burst, Cycle, Inputs, Outputs, Refusal};
@@ -14,6 +15,13 @@ pub fn number(r: Refusal) -> u32
     ensures { result ≡ number_of r }
 {
     u32::from(r)
+}
+
+// n from 2 to 16.
+pub fn masters_ok(n: u32) -> bool
+    ensures { result ≡ masters_ok n }
+{
+    (2 <= n) & (n <= 16)
 }
 
 // The sort of a burst code, in one place.
