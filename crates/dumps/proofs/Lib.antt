@@ -1,4 +1,4 @@
-pub mod Spread
+pub mod Bits
 pub mod Puts
 pub mod Digits
 pub mod Clock

@@ -13,7 +13,8 @@ ghost use Rattle.waves.specs.Header.{write_dump_header_of, dump_header_written};
 ghost use Rattle.waves.specs.Steps.{dump_step, in_time, write_step_of, step_written};
 
 use rules::{Cycle, Refusal};
-pub use times::six_digits;
+pub use lines::spread;
+pub use times::{put_time, six_digits};
 
 // Writes a text, a number, a space and a text: 9.
 fn write_around(first: &[u8], n: u32, last: &[u8], buf: &mut [u8]) -> Result<usize, Refusal>

@@ -11,7 +11,7 @@ use rules::{Inputs, Outputs};
 
 // The characters of eight bits as one number: seven copies of them, each nine places after the one before, have the high seven at the
 // bottoms of their bytes.
-fn spread(b: u64) -> u64
+pub fn spread(b: u64) -> u64
     requires { b < 256 }
     ensures { low_first 8 result ≡ bits 8 b }
 {

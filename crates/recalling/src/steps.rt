@@ -87,10 +87,8 @@ fn step(p: Position, rest: &[u8], out: &mut [u8]) -> Went
 {
     if p.count < 1000000 {
         let before = p.before;
-        let seen = sights::see_step(p.n, p.count, before, rest);
-        if seen.good {
-            let c = seen.cycle;
-            return go(p, rest, c, seen.next, seen.lines, out);
+        if let Some(seen) = sights::see_step(p.n, p.count, before, rest) {
+            return go(p, rest, seen.cycle, seen.next, seen.lines, out);
         }
     }
     read(p, rest, out)

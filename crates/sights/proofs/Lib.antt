@@ -1,6 +1,6 @@
 -- Laws of this crate's proofs.
-pub mod Here
-pub mod Vectors
-pub mod Masks
+pub mod Characters
+pub mod Lines
+pub mod Passing
 pub mod Clock
 pub mod Whole

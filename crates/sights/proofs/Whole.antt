@@ -3,18 +3,23 @@
 --   inputs_passed, outputs_passed == the columns of each side
 --   tests_pass == a cycle that passes the tests
 --   step_seen  == a good step is the one that is written, so the reader reads it
-use Rattle.std.proofs.Common.{◌≡◌, ℕ, ◌+◌, ◌/◌, ◌^◌, ◌<◌, ◌≤◌, Bool, true, false, cond, not, ◌&&◌, eqb, ltb, List, [], ◌∷◌, ◌++◌, length, get_or, take, drop, sym, refl, ap, ◌∙◌, inr, append_assoc, add-zero, zero-add, arith, length-append, length-drop, get_or-drop, take_at, ltb-true, ne_eqb, eqb-true, Ok, Some}
+use Rattle.std.proofs.Common.{◌≡◌, ℕ, ◌+◌, ◌-◌, ◌/◌, ◌^◌, ◌<◌, ◌≤◌, Bool, true, false, cond, not, ◌&&◌, eqb, ltb, List, [], ◌∷◌, ◌++◌, length, get_or, take, drop, sym, refl, ap, ◌∙◌, inr, append_assoc, zero-add, arith, length-append, take-append-drop, take_at, ltb-true, ne_eqb, eqb-true, Ok, Some}
 use mathlib.Core.Bool.{false≢true}
 use borrow.Author.Tests.{not-true}
 use lib.Bits.{bit_or}
+use lib.ListN.{get_or-append}
+use lib.Seq.{length-take-le}
 use Rattle.rules.specs.declared.Inputs.{Inputs}
 use Rattle.rules.specs.declared.Outputs.{Outputs}
 use Rattle.rules.specs.declared.Cycle.{Cycle}
 use Rattle.rules.specs.Codes.{most_cycles}
 use Rattle.rules.specs.State.{masters_ok}
 use Rattle.rules.specs.Valid.{cycle_check}
+use Rattle.rules.proofs.Choice.{and_left, and_right}
 use Rattle.formats.specs.Columns.{cycle_values}
 use Rattle.formats.proofs.Limits.{ok_range, line_valid}
+use Rattle.formats.specs.Digits.{decimal}
+use Rattle.dumps.proofs.Clock.{at_most_six}
 use Rattle.waves.specs.Variables.{Variable, variables, change}
 use Rattle.waves.specs.Steps.{time_line, changes, dump_step}
 use Rattle.waves.specs.Reading.{read_step_of}
@@ -24,52 +29,46 @@ use Rattle.waves.proofs.Promises.{written_step_reads}
 use Rattle.glances.proofs.Bits.{or_below, within}
 use Rattle.glances.proofs.Valid.{cycle_pass}
 use Rattle.glances.proofs.Seen.{masters_below}
-use Rattle.sights.specs.Sights.{variable, piece, counted, Timed, Passed, InputsPassed, OutputsPassed}
+use Rattle.sights.specs.Sights.{variable, piece, counted, Passed, InputsPassed, OutputsPassed}
 
-one_passed : {w k v : ℕ} {s : List ℕ} {q l u next m : ℕ} → Passed w k v s q l u next m → (xs : List Variable) (vs us r : List ℕ)
-    → drop next s ≡ changes false xs vs us ++ r → drop q s ≡ changes false (variable w k ∷ xs) (v ∷ vs) (u ∷ us) ++ r
+one_passed : {w k v : ℕ} {s : List ℕ} {l u : ℕ} {r : List ℕ} {m : ℕ} → Passed w k v s l u r m → (xs : List Variable) (vs us t : List ℕ)
+    → r ≡ changes false xs vs us ++ t → s ≡ changes false (variable w k ∷ xs) (v ∷ vs) (u ∷ us) ++ t
 unfolding changes piece
-one_passed {w} {k} {v} {s} {q} {l} {u} p xs vs us r e =
-    p.bytes ∙ ap (λ x. cond (not (eqb u v)) (change (variable w k) u) [] ++ x) e ∙ sym (append_assoc (cond (not (eqb u v)) (change (variable w k) u) []) (changes false xs vs us) r)
+one_passed {w} {k} {v} {s} {l} {u} p xs vs us t e =
+    p.bytes ∙ ap (λ x. cond (not (eqb u v)) (change (variable w k) u) [] ++ x) e ∙ sym (append_assoc (cond (not (eqb u v)) (change (variable w k) u) []) (changes false xs vs us) t)
 
-module _ (s : List ℕ) where
-  pub inputs_passed : (x : Inputs) (q l u1 u2 u3 u4 u5 n1 n2 n3 n4 n5 m1 m2 m3 m4 m5 : ℕ)
-      → Passed 16 33 x.hbusreq s q l u1 n1 m1
-      → Passed 16 34 x.hlock s n1 m1 u2 n2 m2
-      → Passed 1 35 x.hready s n2 m2 u3 n3 m3
-      → Passed 2 36 x.htrans s n3 m3 u4 n4 m4
-      → Passed 3 37 x.hburst s n4 m4 u5 n5 m5
-      → InputsPassed x s q l (record { hbusreq = u1; hlock = u2; hready = u3; htrans = u4; hburst = u5 }) n5 m5
-  inputs_passed x q l u1 u2 u3 u4 u5 n1 n2 n3 n4 n5 m1 m2 m3 m4 m5 a b c d e =
-      record {
-        bytes = λ xs vs us r h.
-            one_passed a _ _ _ r (one_passed b _ _ _ r (one_passed c _ _ _ r (one_passed d _ _ _ r (one_passed e xs vs us r h))));
-        lines = omega (arith, a.lines, b.lines, c.lines, d.lines, e.lines);
-        near = omega (arith, a.near, b.near, c.near, d.near, e.near);
-        few = omega (arith, a.few, b.few, c.few, d.few, e.few);
-      }
+pub inputs_passed : (x : Inputs) (l u1 u2 u3 u4 u5 : ℕ) (s r1 r2 r3 r4 r5 : List ℕ) (m1 m2 m3 m4 m5 : ℕ)
+    → Passed 16 33 x.hbusreq s l u1 r1 m1
+    → Passed 16 34 x.hlock r1 m1 u2 r2 m2
+    → Passed 1 35 x.hready r2 m2 u3 r3 m3
+    → Passed 2 36 x.htrans r3 m3 u4 r4 m4
+    → Passed 3 37 x.hburst r4 m4 u5 r5 m5
+    → InputsPassed x s l (record { hbusreq = u1; hlock = u2; hready = u3; htrans = u4; hburst = u5 }) r5 m5
+inputs_passed x l u1 u2 u3 u4 u5 s r1 r2 r3 r4 r5 m1 m2 m3 m4 m5 a b c d e =
+    record {
+      bytes = λ xs vs us t h.
+          one_passed a _ _ _ t (one_passed b _ _ _ t (one_passed c _ _ _ t (one_passed d _ _ _ t (one_passed e xs vs us t h))));
+      lines = omega (arith, a.lines, b.lines, c.lines, d.lines, e.lines);
+    }
 
-  nothing : (r : List ℕ) → r ≡ changes false [] [] [] ++ r
-  unfolding changes
-  nothing r = refl
+nothing : (r : List ℕ) → r ≡ changes false [] [] [] ++ r
+unfolding changes
+nothing r = refl
 
-  pub outputs_passed : (x : Outputs) (q l u1 u2 u3 u4 u5 u6 n1 n2 n3 n4 n5 n6 m1 m2 m3 m4 m5 m6 : ℕ)
-      → Passed 16 38 x.hgrant s q l u1 n1 m1
-      → Passed 4 39 x.hmaster s n1 m1 u2 n2 m2
-      → Passed 1 40 x.hmastlock s n2 m2 u3 n3 m3
-      → Passed 1 41 x.decide s n3 m3 u4 n4 m4
-      → Passed 1 42 x.granted s n4 m4 u5 n5 m5
-      → Passed 1 43 x.busreq s n5 m5 u6 n6 m6
-      → OutputsPassed x s q l (record { hgrant = u1; hmaster = u2; hmastlock = u3; decide = u4; granted = u5; busreq = u6 }) n6 m6
-  outputs_passed x q l u1 u2 u3 u4 u5 u6 n1 n2 n3 n4 n5 n6 m1 m2 m3 m4 m5 m6 a b c d e f =
-      record {
-        bytes =
-            let r : List ℕ = drop n6 s in
-            one_passed a _ _ _ r (one_passed b _ _ _ r (one_passed c _ _ _ r (one_passed d _ _ _ r (one_passed e _ _ _ r (one_passed f [] [] [] r (nothing r))))));
-        lines = omega (arith, a.lines, b.lines, c.lines, d.lines, e.lines, f.lines);
-        near = omega (arith, a.near, b.near, c.near, d.near, e.near, f.near);
-        few = omega (arith, a.few, b.few, c.few, d.few, e.few, f.few);
-      }
+pub outputs_passed : (x : Outputs) (l u1 u2 u3 u4 u5 u6 : ℕ) (s r1 r2 r3 r4 r5 r6 : List ℕ) (m1 m2 m3 m4 m5 m6 : ℕ)
+    → Passed 16 38 x.hgrant s l u1 r1 m1
+    → Passed 4 39 x.hmaster r1 m1 u2 r2 m2
+    → Passed 1 40 x.hmastlock r2 m2 u3 r3 m3
+    → Passed 1 41 x.decide r3 m3 u4 r4 m4
+    → Passed 1 42 x.granted r4 m4 u5 r5 m5
+    → Passed 1 43 x.busreq r5 m5 u6 r6 m6
+    → OutputsPassed x s l (record { hgrant = u1; hmaster = u2; hmastlock = u3; decide = u4; granted = u5; busreq = u6 }) r6 m6
+outputs_passed x l u1 u2 u3 u4 u5 u6 s r1 r2 r3 r4 r5 r6 m1 m2 m3 m4 m5 m6 a b c d e f =
+    record {
+      bytes =
+          one_passed a _ _ _ r6 (one_passed b _ _ _ r6 (one_passed c _ _ _ r6 (one_passed d _ _ _ r6 (one_passed e _ _ _ r6 (one_passed f [] [] [] r6 (nothing r6))))));
+      lines = omega (arith, a.lines, b.lines, c.lines, d.lines, e.lines, f.lines);
+    }
 
 -- the sides of a test
 record Sides (a b c d e f g : Bool) : Type 0 where
@@ -133,66 +132,76 @@ module _ (n : ℕ) (ok : masters_ok n ≡ true) where
         request = omega (arith, b1.1);
       }))
 
-three_sides : (a b c : Bool) → (a && b && c) ≡ true → (a ≡ true) × ((b ≡ true) × (c ≡ true))
-three_sides true true c t = (refl, (refl, t))
-three_sides true false c t = absurd (false≢true t)
-three_sides false b c t = absurd (false≢true t)
-
 counted_changed : (vs us : List ℕ) → changed false vs us ≡ counted vs us
 unfolding changed
 counted_changed [] us = refl
 counted_changed (v ∷ vs) [] = refl
 counted_changed (v ∷ vs) (u ∷ us) = ap (λ k. cond (not (eqb u v)) 1 0 + k) (counted_changed vs us)
 
+step_of : (prev : Cycle) (t : ℕ) (c : Cycle) → (t ≡ 0 → ⊥) → dump_step prev t c ≡ time_line t ++ changes false variables (cycle_values prev) (cycle_values c)
+unfolding dump_step
+step_of prev t c some = rw (ne_eqb t 0 some)
+
 -- a step that is written before something else is read
-module _ (n t : ℕ) (prev c : Cycle) (s : List ℕ) (next : ℕ) (ok : masters_ok n ≡ true) (some : 0 < t) (early : t < most_cycles) (valid : cycle_check n c ≡ Ok tt)
-    (inside : next ≤ length s) (ends : get_or s next 0 ≡ 35)
-    (step : s ≡ time_line t ++ (changes false variables (cycle_values prev) (cycle_values c) ++ drop next s))
+module _ (n t : ℕ) (prev c : Cycle) (s tail : List ℕ) (next : ℕ) (ok : masters_ok n ≡ true) (some : t ≡ 0 → ⊥) (early : t < most_cycles) (valid : cycle_check n c ≡ Ok tt)
+    (ends : get_or tail 0 0 ≡ 35)
+    (step : s ≡ time_line t ++ (changes false variables (cycle_values prev) (cycle_values c) ++ tail))
+    (size : length (dump_step prev t c) ≡ next)
   where
     later : eqb t 0 ≡ false
-    later = ne_eqb t 0 (λ e. omega arith)
+    later = ne_eqb t 0 some
 
-    written : s ≡ dump_step prev t c ++ drop next s
-    unfolding dump_step
-    written = step ∙ rw later (sym (append_assoc (time_line t) (changes false variables (cycle_values prev) (cycle_values c)) (drop next s)))
-
-    size : length (dump_step prev t c) ≡ next
-    size = omega (arith, ap length written, length-append (dump_step prev t c) (drop next s), length-drop next s)
+    written : s ≡ dump_step prev t c ++ tail
+    written =
+        step ∙ rw (step_of prev t c some) (sym (append_assoc (time_line t) (changes false variables (cycle_values prev) (cycle_values c)) tail))
 
     pub step_reads : read_step_of n t prev s 0 ≡ Ok (Some (c, next))
     step_reads =
-        let post : get_or (drop next s) 0 0 ≡ 35 = get_or-drop next s 0 0 ∙ ap (λ i. get_or s i 0) (add-zero next) ∙ ends in
         ap (λ l. read_step_of n t prev l 0) written
-        ∙ written_step_reads n t prev c [] (drop next s) (ok_range n ok) early valid (inr post)
+        ∙ written_step_reads n t prev c [] tail (ok_range n ok) early valid (inr ends)
         ∙ ap (λ (q : ℕ). Ok (Some (c, q))) (zero-add (length (dump_step prev t c)) ∙ size)
 
     pub step_lines : (m : ℕ) → m ≡ 1 + counted (cycle_values prev) (cycle_values c) → lines_in (take next s) ≡ m
     step_lines m e =
-        ap lines_in (ap (take next) written ∙ take_at (dump_step prev t c) (drop next s) next size)
+        ap lines_in (ap (take next) written ∙ take_at (dump_step prev t c) tail next size)
         ∙ lines_of_step prev t c
         ∙ rw (later, counted_changed (cycle_values prev) (cycle_values c)) (sym e)
 
-module _ (n t : ℕ) (prev : Cycle) (s : List ℕ) (ok : masters_ok n ≡ true) (early : t < most_cycles) (room : 128 ≤ length s)
-    (at : ℕ) (time : Timed t s at)
-    (x : Inputs) (p l : ℕ) (a : InputsPassed prev.inputs s at 1 x p l)
-    (y : Outputs) (q m : ℕ) (b : OutputsPassed prev.outputs s p l y q m)
-    (valid : Bool) (ev : valid ≡ true → cycle_check n (record { inputs = x; outputs = y }) ≡ Ok tt)
+-- the step stands in the first bytes of s
+module _ (n t : ℕ) (prev : Cycle) (s head : List ℕ) (ok : masters_ok n ≡ true) (some : t ≡ 0 → ⊥) (early : t < most_cycles)
+    (few : head ≡ take 128 s) (room : 128 ≤ length s)
+    (rest : List ℕ) (time : head ≡ time_line t ++ rest)
   where
-    abbrev cycle : Cycle
-    cycle = record { inputs = x; outputs = y }
+    pub room_left : (20 ≤ length rest) × (1 + length rest ≤ 128)
+    unfolding time_line
+    room_left =
+        let all : length (time_line t) + length rest ≡ 128 =
+        sym (length-append (time_line t) rest) ∙ sym (ap length time) ∙ ap length few ∙ length-take-le 128 s room in
+        let line : length (time_line t) ≡ 1 + length (decimal t) + 1 = simp length-append (omega arith) in
+        (omega (arith, at_most_six t early), omega arith)
 
-    pub step_seen : (at ≡ 0 → ⊥) → (ltb 0 t && valid && eqb (get_or s q 0) 35) ≡ true
-        → (read_step_of n t prev s 0 ≡ Ok (Some (cycle, q))) × (lines_in (take q s) ≡ m) × (q ≤ length s)
-    step_seen timed g =
-        let f = three_sides (ltb 0 t) valid (eqb (get_or s q 0) 35) g in
-        let some = ltb-true 0 t f.0 in
-        let lines : drop at s ≡ changes false variables (cycle_values prev) (cycle_values cycle) ++ drop q s = a.bytes _ _ _ (drop q s) b.bytes in
-        let step : s ≡ time_line t ++ (changes false variables (cycle_values prev) (cycle_values cycle) ++ drop q s) =
-        time.line (omega arith) ∙ ap (λ k. time_line t ++ k) lines in
-        let inside : q ≤ length s = omega (arith, time.near, a.near, b.near) in
-        let ends = eqb-true (get_or s q 0) 35 f.1.1 in
-        let good = ev f.1.0 in (
-          step_reads n t prev cycle s q ok some early good inside ends step,
-          step_lines n t prev cycle s q ok some early good inside ends step m (omega (arith, a.lines, b.lines)),
-          inside,
-        )
+    module _ (x : Inputs) (r : List ℕ) (l : ℕ) (a : InputsPassed prev.inputs rest 1 x r l)
+        (y : Outputs) (tail : List ℕ) (m : ℕ) (b : OutputsPassed prev.outputs r l y tail m)
+        (valid : Bool) (passed : valid ≡ true → cycle_check n (record { inputs = x; outputs = y }) ≡ Ok tt)
+        (left : 20 ≤ length tail) (tests : (valid && eqb (get_or tail 0 0) 35) ≡ true)
+      where
+        abbrev cycle : Cycle
+        cycle = record { inputs = x; outputs = y }
+
+        pub step_seen : (read_step_of n t prev s 0 ≡ Ok (Some (cycle, 128 - length tail))) × (lines_in (take (128 - length tail) s) ≡ m) × (128 - length tail ≤ length s)
+        step_seen =
+            let after : List ℕ = drop 128 s in
+            let lines : List ℕ = changes false variables (cycle_values prev) (cycle_values cycle) in
+            let seen : head ≡ time_line t ++ (lines ++ tail) = time ∙ ap (λ k. time_line t ++ k) (a.bytes _ _ _ tail b.bytes) in
+            let step : s ≡ time_line t ++ (lines ++ (tail ++ after)) =
+            sym (take-append-drop 128 s) ∙ rw (← few, seen, append_assoc, append_assoc) in
+            let size : length (dump_step prev t cycle) ≡ 128 - length tail =
+            rw (step_of prev t cycle some)
+            (omega (arith, ap length few, ap length seen, length-take-le 128 s room, length-append (time_line t) (lines ++ tail), length-append lines tail, length-append (time_line t) lines)) in
+            let good = passed (and_left valid (eqb (get_or tail 0 0) 35) tests) in
+            let found : get_or (tail ++ after) 0 0 ≡ 35 =
+            get_or-append tail after 0 0 (omega arith) ∙ eqb-true _ _ (and_right valid (eqb (get_or tail 0 0) 35) tests) in (
+              step_reads n t prev cycle s (tail ++ after) (128 - length tail) ok some early good found step size,
+              step_lines n t prev cycle s (tail ++ after) (128 - length tail) ok some early good found step size m (omega (arith, a.lines, b.lines)),
+              omega arith,
+            )

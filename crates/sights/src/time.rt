@@ -1,65 +1,54 @@
 // The line of a step's time.
-ghost use Rattle.std.specs.Prelude.{◌≡◌, ◌+◌, ◌<◌, ◌≤◌, ◌&&◌, length, if◌then◌else◌, ◌==◌, nat_eq};
+ghost use Rattle.std.specs.Prelude.{◌≡◌, ◌<◌, ◌≤◌, ◌++◌, IfSome};
 ghost use Rattle.rules.specs.Codes.{most_cycles};
-ghost use Rattle.sights.specs.Sights.{First, Timed};
+ghost use Rattle.waves.specs.Steps.{time_line};
+ghost use Rattle.sights.specs.Clock.{Counting};
 
-// The position after the byte b at i, if it ends the line of the number v, which has to be the time t; 0 if not.
-fn ended(b: u8, v: u32, t: u32, i: usize) -> usize
-    requires { i ≤ 8 }
-    ensures { result ≡ (if nat_eq b 10 && v == t then i + 1 else 0) }
+// The first digit of a time, which is not 0.
+fn first_digit(s: &[u8; 128]) -> Option<u32>
+    ensures { IfSome result (λ d. Counting s.now d 2) }
 {
-    if (b == 10) & (v == t) { i + 1 } else { 0 }
-}
-
-// The first digit of a time, which is not 0; 0 where there is none.
-fn first_digit(s: &[u8]) -> u32
-    requires { 2 ≤ length s.now }
-    ensures { First s.now result }
-{
-    let d = std::num::wrapping_sub_u32(s[1] as u32, 48);
-    if (s[0] == 35) & (d <= 9) { d } else { 0 }
-}
-
-// The position after the line of the time t, if s begins with it; 0 if not: its digits are read one by one.
-fn read_time(t: u32, s: &[u8]) -> usize
-    requires { 8 ≤ length s.now }
-    ensures { Timed t s.now result }
-{
-    let mut v: u32 = first_digit(s);
-    let mut i: usize = 2;
-    if v == 0 {
-        return 0;
+    match s {
+        [b'#', digit @ b'1'..=b'9', ..] => Some((*digit - 48) as u32),
+        _ => None,
     }
-    while i < 8 {
-        let b = s[i];
-        let d = std::num::wrapping_sub_u32(b as u32, 48);
-        if 9 < d {
-            return ended(b, v, t, i);
+}
+
+// What stands after the line of a time, if s begins with it: its digits are read one by one.
+fn after_digits(t: u32, s: &[u8; 128]) -> Option<&[u8]>
+    ensures { IfSome result (λ rest. s.now ≡ time_line t ++ rest.now) }
+{
+    let mut v = first_digit(s)?;
+    for i in 2..8 {
+        match s[i] {
+            b @ b'0'..=b'9' => v = v * 10 + (b - 48) as u32,
+            b'\n' if v == t => return Some(&s[i + 1..]),
+            _ => return None,
         }
-        v = v * 10 + d;
-        i += 1;
     }
-    0
+    None
 }
 
 // The same of a time of six digits: its line is eight bytes.
-fn six_here(t: u32, s: &[u8]) -> usize
-    requires { (8 ≤ length s.now) × (100000 ≤ t) × (t < most_cycles) }
-    ensures { Timed t s.now result }
+fn after_word(t: u32, s: &[u8; 128]) -> Option<&[u8]>
+    requires { (100000 ≤ t) × (t < most_cycles) }
+    ensures { IfSome result (λ rest. s.now ≡ time_line t ++ rest.now) }
 {
-    let text = dumps::six_digits(t as u64);
-    let w = words::eight(s);
-    if w == text { 8 } else { 0 }
+    if words::eight(s) == dumps::six_digits(t as u64) {
+        Some(&s[8..])
+    } else {
+        None
+    }
 }
 
 // The same of any time.
-pub fn time_at(t: u32, s: &[u8]) -> usize
-    requires { (8 ≤ length s.now) × (t < most_cycles) }
-    ensures { Timed t s.now result }
+pub fn after_time(t: u32, s: &[u8; 128]) -> Option<&[u8]>
+    requires { t < most_cycles }
+    ensures { IfSome result (λ rest. s.now ≡ time_line t ++ rest.now) }
 {
     if 100000 <= t {
-        six_here(t, s)
+        after_word(t, s)
     } else {
-        read_time(t, s)
+        after_digits(t, s)
     }
 }

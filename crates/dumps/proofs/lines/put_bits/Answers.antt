@@ -1,5 +1,5 @@
 -- `put_bits` meets its contract: two words, or one by one.
-use Rattle.dumps.proofs.Spread.{mask_put}
+use Rattle.dumps.proofs.Bits.{mask_put}
 use Rattle.dumps.proofs.lines.put_bits.Goals as goal
 
 pub returns-then-width-eq16 : goal.returns-then-width-eq16

@@ -3,7 +3,7 @@ use mathlib.Core.Path.{refl}
 use native.Mathlib.Omega.{arith}
 use native.Mathlib.Numerals.{towards_suc}
 use Rattle.dumps.specs.Changed.{variable}
-use Rattle.dumps.proofs.Spread.{scalar_line}
+use Rattle.dumps.proofs.Bits.{scalar_line}
 use Rattle.dumps.proofs.Puts.{put_none, put_line}
 use Rattle.dumps.proofs.lines.put_scalar.Goals as goal
 

@@ -3,7 +3,7 @@ use Prim.Native.Nat.{◌+◌}
 use native.Mathlib.Omega.{arith}
 use Rattle.waves.specs.Variables.{bits}
 use Rattle.dumps.specs.Changed.{variable}
-use Rattle.dumps.proofs.Spread.{bits_length, vector_line}
+use Rattle.dumps.proofs.Bits.{bits_length, vector_line}
 use Rattle.dumps.proofs.Puts.{put_none, put_line, line_stores, line_end, line_short}
 use Rattle.dumps.proofs.lines.put_vector.Goals as goal
 

@@ -2,5 +2,5 @@
 use Rattle.conversions.proofs.Positions.{facts_of}
 use Rattle.recalling.proofs.steps.step.Goals as goal
 
-pub see_step-seen-requires : goal.see_step-seen-requires
-see_step-seen-requires c = ((facts_of c.args.p c.requires.0).masters, c.if-p-lt1000000.true)
+pub see_step-requires : goal.see_step-requires
+see_step-requires c = ((facts_of c.args.p c.requires.0).masters, c.if-p-lt1000000.true)

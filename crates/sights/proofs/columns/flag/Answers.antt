@@ -1,16 +1,12 @@
--- `flag` meets its contract: the other bit's line, or none.
+-- `flag` meets its contract: the line is its three bytes.
 use Rattle.std.proofs.Common.{arith}
-use Rattle.words.proofs.Words.{Bytes}
-use Rattle.sights.proofs.Here.{kept}
-use Rattle.sights.proofs.Vectors.{flag_seen}
+use Rattle.sights.proofs.Lines.{flag_line}
 use Rattle.sights.proofs.columns.flag.Goals as goal
 
-pub returns-then-w-other : goal.returns-then-w-other
-returns-then-w-other c = let bytes : Bytes c.args.s.now = record { below = λ i. omega (arith, c.type_inv.s i) } in
-    search (flag_seen, bytes)
+pub returns-in-48 : goal.returns-in-48
+returns-in-48 c = let h = c.split_at.ensures in
+    flag_line c.args.code 0 c.args.s.now _ _ c.requires h.front h.back h.front_len (omega arith) c.if-line-code.false (omega arith)
 
-pub returns-else-w-other : goal.returns-else-w-other
-returns-else-w-other c = kept _ _ _ _ _ _
-
-pub returns-else-s-q : goal.returns-else-s-q
-returns-else-s-q c = kept _ _ _ _ _ _
+pub returns-in-49 : goal.returns-in-49
+returns-in-49 c = let h = c.split_at.ensures in
+    flag_line c.args.code 1 c.args.s.now _ _ c.requires h.front h.back h.front_len (omega arith) c.if-line-code.false (omega arith)
