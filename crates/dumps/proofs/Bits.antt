@@ -3,7 +3,7 @@
 --   spread_bits == eight bits spread over the bytes of a number
 --   spread_fits == that number has 64 bits
 --   bits_length == w bits are w characters
---   bits_more, bits_none == bits that are written one by one: the first and the rest, and none
+--   bit_put     == one bit more of those that are written one by one
 --   scalar_line, vector_line == the line of a variable of one bit, and of several
 --   mask_put    == sixteen bits, written as two runs of eight
 use Prim.Native.Nat.{ℕ, zero, suc, ◌+◌, ◌-◌, ◌*◌, ◌/◌, ◌%◌, ◌^◌, ◌≤◌, ◌<◌}
@@ -52,13 +52,18 @@ bits_length zero v = refl
 bits_length (suc w) v = ap suc (bits_length w v)
 
 -- one bit, and then the rest
-pub bits_more : (b : List ℕ) (i p v : ℕ) → 0 < i → sets (set b p (48 + v / 2 ^ (i - 1) % 2)) (p + 1) (bits (i - 1) v) ≡ sets b p (bits i v)
+bits_more : (b : List ℕ) (i p v : ℕ) → 0 < i → sets (set b p (48 + v / 2 ^ (i - 1) % 2)) (p + 1) (bits (i - 1) v) ≡ sets b p (bits i v)
 bits_more b zero p v h = absurd (omega arith)
 bits_more b (suc i) p v h = let e : suc i - 1 ≡ i = omega arith in rw (e, add-one)
 
-pub bits_none : (b : List ℕ) (i p v : ℕ) → i ≤ 0 → sets b p (bits i v) ≡ b
-bits_none b zero p v h = refl
-bits_none b (suc i) p v h = absurd (omega arith)
+-- the bit at place i of w, and then those that follow
+pub bit_put : (b c : List ℕ) (i w at v : ℕ) → i < w → sets b (at + i) (bits (w - i) v) ≡ c
+    → sets (set b (at + i) (48 + v / 2 ^ (w - 1 - i) % 2)) (at + (i + 1)) (bits (w - (i + 1)) v) ≡ c
+bit_put b c i w at v h e =
+    let p : at + (i + 1) ≡ at + i + 1 = omega arith in
+    let k : w - 1 - i ≡ w - i - 1 = omega arith in
+    let r : w - (i + 1) ≡ w - i - 1 = omega arith in
+    rw (p, k, r) (bits_more b (w - i) (at + i) v (omega arith) ∙ e)
 
 -- a bit of a mask is a bit of one of its bytes
 record Bits (u : ℕ) : Type 0 where

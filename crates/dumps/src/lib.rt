@@ -12,9 +12,9 @@ ghost use Rattle.waves.specs.Variables.{space};
 ghost use Rattle.waves.specs.Header.{write_dump_header_of, dump_header_written};
 ghost use Rattle.waves.specs.Steps.{dump_step, in_time, write_step_of, step_written};
 
-use rules::{Cycle, Refusal};
 pub use lines::spread;
-pub use times::{put_time, six_digits};
+use rules::{Cycle, Refusal};
+pub use times::six_digits;
 
 // Writes a text, a number, a space and a text: 9.
 fn write_around(first: &[u8], n: u32, last: &[u8], buf: &mut [u8]) -> Result<usize, Refusal>
@@ -36,15 +36,13 @@ fn write_around(first: &[u8], n: u32, last: &[u8], buf: &mut [u8]) -> Result<usi
 pub fn write_dump_header(n: u32, buf: &mut [u8]) -> Result<usize, Refusal>
     ensures { (result ≡ write_dump_header_of n (length buf.old)) × (buf.new ≡ dump_header_written n buf.old) }
 {
-    match fields::for_masters(n, Ok(())) {
-        Err(r) => Err(r),
-        Ok(()) => write_around(
-            b"$comment masters ",
-            n,
-            b"$end\n$timescale 1 ns $end\n$scope module ahb $end\n$var wire 16 ! HBUSREQ $end\n$var wire 16 \" HLOCK $end\n$var wire 1 # HREADY $end\n$var wire 2 $ HTRANS $end\n$var wire 3 % HBURST $end\n$var wire 16 & HGRANT $end\n$var wire 4 ' HMASTER $end\n$var wire 1 ( HMASTLOCK $end\n$var wire 1 ) DECIDE $end\n$var wire 1 * GRANTED $end\n$var wire 1 + BUSREQ $end\n$upscope $end\n$enddefinitions $end\n",
-            buf,
-        ),
-    }
+    fields::for_masters(n, Ok(()))?;
+    write_around(
+        b"$comment masters ",
+        n,
+        b"$end\n$timescale 1 ns $end\n$scope module ahb $end\n$var wire 16 ! HBUSREQ $end\n$var wire 16 \" HLOCK $end\n$var wire 1 # HREADY $end\n$var wire 2 $ HTRANS $end\n$var wire 3 % HBURST $end\n$var wire 16 & HGRANT $end\n$var wire 4 ' HMASTER $end\n$var wire 1 ( HMASTLOCK $end\n$var wire 1 ) DECIDE $end\n$var wire 1 * GRANTED $end\n$var wire 1 + BUSREQ $end\n$upscope $end\n$enddefinitions $end\n",
+        buf,
+    )
 }
 
 // Writes the step of cycle t, which is c, after the cycle prev; answers how many bytes it has.
@@ -89,8 +87,6 @@ pub fn write_step(n: u32, t: u32, prev: Cycle, c: Cycle, buf: &mut [u8]) -> Resu
 {
     let k = signals::check_cycle(n, c);
     let timed = in_time(t, k);
-    match fields::for_masters(n, timed) {
-        Err(r) => Err(r),
-        Ok(()) => write_good(t, prev, c, buf),
-    }
+    fields::for_masters(n, timed)?;
+    write_good(t, prev, c, buf)
 }
