@@ -1,22 +1,22 @@
 -- The answer of reading a step, from its tests.
 --
---   line_inside     == a text that begins with the line of its time has room for it
 --   no_line, right_shape, wrong_shape == the three ends of a step whose variables are known
 --   other_time, full, unknown, known  == the four ends of a step's text
 --   no_masters, beyond, no_more, inside == the four ends at a position
-use Rattle.std.specs.Prelude.{Err, None, Ok}
+use Rattle.std.specs.Prelude.{Err, None, Ok, Some, Option, Result, MatchOption, ok_or}
+use Rattle.std.proofs.Common.{Bor}
 use Prim.Native.Nat.{ℕ, ◌+◌, ◌-◌, ◌≤◌, ◌<◌}
-use mathlib.Core.Path.{◌≡◌, sym, ◌∙◌}
+use mathlib.Core.Path.{◌≡◌, sym, ap, ◌∙◌}
 use mathlib.Core.Bool.{Bool, true, false, not, ◌&&◌, cond}
 use mathlib.Core.List.{List}
-use native.Mathlib.Omega.{arith}
 use borrow.Author.Tests.{lt-ltb, le-ltb, eq-eqb, ne_eqb, not-true, not-false}
 use lib.Dec.{eqb, leb}
 use lib.ListN.{length, take, drop}
 use Rattle.rules.specs.declared.Refusal.TheVariants as refusal
+use Rattle.rules.specs.declared.Refusal.{Refusal}
+use Rattle.rules.specs.Results.{Check}
 use Rattle.rules.specs.declared.Cycle.{Cycle}
 use Rattle.rules.specs.State.{masters_ok}
-use Rattle.rules.proofs.Choice.{order, differ}
 use Rattle.formats.specs.Results.{TraceRead}
 use Rattle.formats.specs.Columns.{cycle_values}
 use Rattle.formats.specs.Lines.{line_check}
@@ -24,7 +24,7 @@ use Rattle.waves.specs.Variables.{variables}
 use Rattle.waves.specs.Header.{begins}
 use Rattle.waves.specs.Steps.{time_line}
 use Rattle.waves.specs.Reading.{most_bytes, step_text, has_time, time_is, wrong_time, full_time, unknown_in, shaped, values_in, cycle_of, step_shaped, step_cycle, step_checked, step_in, read_step_of}
-use Rattle.scans.proofs.Begins.{too_short}
+use Rattle.scans.proofs.Unknown.{rest}
 use Rattle.scans.proofs.Ends.{step_taken}
 
 -- the answer to the shape of a step
@@ -32,30 +32,40 @@ abbrev pub shape_answer : ℕ → ℕ → Cycle → List ℕ → ℕ → TraceRe
 shape_answer n t prev s next =
     cond (step_shaped t prev s) (step_checked (line_check n (step_cycle t prev s)) (step_cycle t prev s) next) (Err refusal.Shape)
 
+-- the refusal that is told where a test found nothing
+abbrev error_or : {A : Type 0} → Result A Refusal → Refusal → Refusal
+error_or (Ok a) x = x
+error_or (Err y) x = y
+
+refused_by : {A : Type 0} (o : Option A) (r : Result A Refusal) (x y : Refusal) → r ≡ ok_or o x → r ≡ Err y → o ≡ None → y ≡ x
+refused_by o r x y e f n = ap (λ q. error_or q x) (sym f ∙ e ∙ ap (λ q. ok_or q x) n)
+
 module _ (n t : ℕ) (prev : Cycle) (s : List ℕ) (next : ℕ) where
-  module _ (line : Bool) (size : ℕ) (el : line ≡ begins s (time_line t)) (es : size ≡ length (time_line t)) where
-    pub no_line : not line ≡ true → Err refusal.Shape ≡ shape_answer n t prev s next
-    unfolding step_shaped
-    no_line e = rw (← el, not-true line e)
+  module _ (o : Option (Bor (List ℕ)))
+      (eo : MatchOption o (begins s (time_line t) ≡ false) (λ rest. (begins s (time_line t) ≡ true) × (rest.now ≡ drop (length (time_line t)) s)))
+    where
+      pub no_line : (r : Result (Bor (List ℕ)) Refusal) (y : Refusal) → r ≡ ok_or o refusal.Shape → r ≡ Err y → o ≡ None → Err y ≡ shape_answer n t prev s next
+      unfolding step_shaped
+      no_line r y e f n =
+          let b : begins s (time_line t) ≡ false = rw n at eo in
+          rw (refused_by o r refusal.Shape y e f n, b)
 
-    module _ (e : not line ≡ false) where
-      pub line_inside : size ≤ length s
-      line_inside =
-          order size (length s) (λ h. h)
-          (λ h. absurd (differ (begins s (time_line t)) (sym el ∙ not-false line e) (too_short s (time_line t) (omega arith))))
+  module _ (lines : List ℕ) (here : begins s (time_line t) ≡ true) (after : lines ≡ drop (length (time_line t)) s)
+      (o : Option Cycle)
+      (eo : MatchOption o (shaped (eqb t 0) variables (cycle_values prev) lines ≡ false)
+      (λ c. (shaped (eqb t 0) variables (cycle_values prev) lines ≡ true) × (c ≡ cycle_of (values_in variables (cycle_values prev) lines))))
+    where
+      pub wrong_shape : (r : Result Cycle Refusal) (y : Refusal) → r ≡ ok_or o refusal.Shape → r ≡ Err y → o ≡ None → Err y ≡ shape_answer n t prev s next
+      unfolding step_shaped
+      wrong_shape r y e f n =
+          let b : shaped (eqb t 0) variables (cycle_values prev) lines ≡ false = rw n at eo in
+          rw (refused_by o r refusal.Shape y e f n, here, ← after, b)
 
-      module _ (found : Bool) (ef : found ≡ shaped (eqb t 0) variables (cycle_values prev) (drop size s)) where
-        shape_is : step_shaped t prev s ≡ found
-        unfolding step_shaped
-        shape_is = rw (← el, not-false line e, ← es, ← ef)
-
-        pub wrong_shape : found ≡ false → Err refusal.Shape ≡ shape_answer n t prev s next
-        wrong_shape f = rw (shape_is, f)
-
-        pub right_shape : (c : Cycle) (r : TraceRead) → found ≡ true → c ≡ cycle_of (values_in variables (cycle_values prev) (drop size s)) → r ≡ step_checked (line_check n c) c next
-            → r ≡ shape_answer n t prev s next
-        unfolding step_cycle
-        right_shape c r f ec h = rw (shape_is, f, ← es, ← ec) h
+      pub right_shape : (c : Cycle) (k : Check) (r : TraceRead) → o ≡ Some c → k ≡ line_check n c → r ≡ step_checked k c next → r ≡ shape_answer n t prev s next
+      unfolding step_shaped step_cycle
+      right_shape c k r e f h =
+          let b = rw e at eo in
+          rw (here, ← after, b.0, ← b.1, ← f) h
 
   module _ (has right : Bool) (eh : has ≡ has_time s) (er : right ≡ time_is t s) where
     pub other_time : (has && not right) ≡ true → Err refusal.Time ≡ step_in n t prev s next
@@ -91,9 +101,10 @@ module _ (n t : ℕ) (prev : Cycle) (s : List ℕ) (p : ℕ) (ok : Bool) (eo : o
       unfolding read_step_of
       no_more e = simp (← eo, not-false ok o, le-ltb (length s) p h, eq-eqb p (length s) e)
 
-      pub inside : (end : ℕ) (r : TraceRead) → (p ≡ length s → ⊥) → end ≡ p + length (step_text (drop p s)) → r ≡ step_in n t prev (take (end - p) (drop p s)) end
-          → r ≡ read_step_of n t prev s p
+      pub inside : (size : ℕ) (r : TraceRead) → (p ≡ length s → ⊥) → size ≡ length (step_text (take (length s - p) (drop p s)))
+          → r ≡ step_in n t prev (take size (take (length s - p) (drop p s))) (p + size) → r ≡ read_step_of n t prev s p
       unfolding read_step_of
-      inside end r e ee k =
-          let q : end - p ≡ length (step_text (drop p s)) = omega arith in
-          simp (← eo, not-false ok o, le-ltb (length s) p h, ne_eqb p (length s) e) (rw (← ee) (rw (q, step_taken most_bytes (drop p s)) at k))
+      inside size r e es k =
+          let q : size ≡ length (step_text (drop p s)) = rw (rest s p) at es in
+          let l : take size (take (length s - p) (drop p s)) ≡ step_text (drop p s) = rw (rest s p, q) (step_taken most_bytes (drop p s)) in
+          simp (← eo, not-false ok o, le-ltb (length s) p h, ne_eqb p (length s) e) (rw (← q) (rw l at k))

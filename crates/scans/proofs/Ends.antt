@@ -1,27 +1,13 @@
 -- Where a step ends, byte by byte.
 --
---   here           == the byte at a position inside a text, and what follows it
---   first_there    == the first byte of what follows a position
---   Ending s p i k == the step at p has the bytes up to i, and then at most k more
---   ending_start, ending_on == such a position at the start, and one further
---   ended_at, ended_short, ended_whole == the three ends
---   step_taken     == a step is the bytes up to its end
-use Prim.Native.Nat.{ℕ, zero, suc, ◌+◌, ◌-◌, ◌≤◌, ◌<◌}
-use mathlib.Core.Path.{◌≡◌, refl, sym, ap, ◌∙◌}
-use mathlib.Core.Bool.{Bool, true, false, ◌&&◌, cond}
-use mathlib.Core.List.{List, [], ◌∷◌}
-use native.Mathlib.Omega.{arith}
-use native.Mathlib.Numerals.{add-one, unary_clauses}
-use lib.Dec.{eqb}
-use lib.ListN.{length, get_or, take, drop, drop_of_length-le}
-use lib.Seq.{drop-cons, get_or-drop}
+--   Ending s i == the step that s begins with has the first i bytes, and then some more
+--   ended_at, ending_on, ended_whole == it ends behind the byte at i; it goes on; and it has all bytes that are looked at
+--   step_taken == a step is the bytes up to its end
+use Rattle.std.proofs.Common.{◌≡◌, ℕ, zero, suc, ◌+◌, ◌-◌, ◌<◌, ◌≤◌, min, Bool, true, false, cond, ◌&&◌, eqb, List, [], ◌∷◌, length, get_or, take, drop, sym, refl, ap, ◌∙◌, zero-add, arith}
+use lib.ListN.{drop_of_length-le}
+use Rattle.rules.proofs.Choice.{order}
 use Rattle.waves.specs.Reading.{up_to, step_text}
-
-pub here : (s : List ℕ) (i : ℕ) → i < length s → drop i s ≡ get_or s i 0 ∷ drop (i + 1) s
-here s i h = rw add-one (drop-cons s i 0 h)
-
-pub first_there : (s : List ℕ) (i : ℕ) → get_or (drop i s) 0 0 ≡ get_or s i 0
-first_there s i = simp unary_clauses at (get_or-drop i s 0 0)
+use Rattle.scans.proofs.Unknown.{here, first_there}
 
 -- the bytes of a step from one byte on
 up_here : (k b n : ℕ) (s : List ℕ) (f : Bool) → 0 < k → n ≡ get_or s 0 0 → (eqb b 10 && eqb n 35) ≡ f
@@ -40,32 +26,31 @@ unfolding up_to
 up_zero zero s h = refl
 up_zero (suc k) s h = absurd (omega arith)
 
-pub record Ending (s : List ℕ) (p i k : ℕ) : Type 0 where
-  pub inside : i ≤ length s
-  pub end : p + length (step_text (drop p s)) ≡ i + length (up_to k (drop i s))
+pub record Ending (s : List ℕ) (i : ℕ) : Type 0 where
+  pub end : length (step_text s) ≡ i + length (up_to (105 - i) (drop i s))
 
-pub ending_start : (s : List ℕ) (p : ℕ) → p ≤ length s → Ending s p p 105
-ending_start s p h = record { inside = h; end = refl }
+pub ending_start : (s : List ℕ) → Ending s 0
+ending_start s = record { end = sym (zero-add (length (up_to 105 s))) }
 
-module _ (s : List ℕ) (p i k : ℕ) (e : Ending s p i k) where
-  pub ended_short : length s ≤ i → i ≡ p + length (step_text (drop p s))
-  ended_short h = let z : length (up_to k (drop i s)) ≡ 0 = rw (drop_of_length-le s h) (up_none k) in omega (arith, e.end)
+module _ (s : List ℕ) (i : ℕ) (e : Ending s i) where
+  pub ended_whole : i ≡ min (length s) 105 → i ≡ length (step_text s)
+  ended_whole h =
+      order (length s) i
+      (λ a. let z : length (up_to (105 - i) (drop i s)) ≡ 0 = rw (drop_of_length-le s a) (up_none (105 - i)) in omega (arith, e.end))
+      (λ b. omega (arith, e.end, up_zero (105 - i) (drop i s) (omega arith)))
 
-  pub ended_whole : k ≤ 0 → i ≡ p + length (step_text (drop p s))
-  ended_whole h = omega (arith, e.end, up_zero k (drop i s) h)
-
-  module _ (some : 0 < k) (more : i < length s) (next : ℕ) (follows : next ≡ get_or s (i + 1) 0) where
+  module _ (few : i < 105) (more : i < length s) (next : ℕ) (follows : next ≡ get_or s (i + 1) 0) where
     one_more : (f : Bool) → (eqb (get_or s i 0) 10 && eqb next 35) ≡ f
-        → length (up_to k (drop i s)) ≡ suc (length (cond f [] (up_to (k - 1) (drop (i + 1) s))))
+        → length (up_to (105 - i) (drop i s)) ≡ suc (length (cond f [] (up_to (105 - i - 1) (drop (i + 1) s))))
     one_more f t =
         let n : next ≡ get_or (drop (i + 1) s) 0 0 = follows ∙ sym (first_there s (i + 1)) in
-        rw (here s i more) (up_here k (get_or s i 0) next (drop (i + 1) s) f some n t)
+        rw (here s i more) (up_here (105 - i) (get_or s i 0) next (drop (i + 1) s) f (omega arith) n t)
 
-    pub ended_at : (eqb (get_or s i 0) 10 && eqb next 35) ≡ true → i + 1 ≡ p + length (step_text (drop p s))
+    pub ended_at : (eqb (get_or s i 0) 10 && eqb next 35) ≡ true → i + 1 ≡ length (step_text s)
     ended_at t = omega (arith, e.end, one_more true t)
 
-    pub ending_on : (eqb (get_or s i 0) 10 && eqb next 35) ≡ false → Ending s p (i + 1) (k - 1)
-    ending_on t = record { inside = omega arith; end = omega (arith, e.end, one_more false t) }
+    pub ending_on : (eqb (get_or s i 0) 10 && eqb next 35) ≡ false → Ending s (i + 1)
+    ending_on t = let k : 105 - i - 1 ≡ 105 - (i + 1) = omega arith in record { end = omega (arith, e.end, rw k at (one_more false t)) }
 
 pub step_taken : (k : ℕ) (s : List ℕ) → take (length (up_to k s)) s ≡ up_to k s
 unfolding up_to

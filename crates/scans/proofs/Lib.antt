@@ -1,7 +1,8 @@
+-- Laws of this crate's proofs.
 pub mod Begins
 pub mod Headers
-pub mod Ends
 pub mod Unknown
+pub mod Ends
 pub mod Times
 pub mod Sizes
 pub mod Bits

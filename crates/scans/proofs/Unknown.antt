@@ -1,92 +1,84 @@
 -- The codes of a step's lines, byte by byte.
 --
---   Spacing s p i == the search for a space of the line at p has come to i
---   space_start, space_on == such a position at the start, and one further
---   space_none, space_found, space_end == what stands after the space, at the three ends
+--   here        == the byte at a position inside a text, and what follows it
+--   first_there == the first byte of what follows a position
+--   space_none, space_found, space_on == the search for a space at a LF, at a space, and at another byte
 --   scalar, vector, no_change == where the code of a line stands
---   code_known    == whether it is an unknown code
---   Looking s starts i == the lines before i have no unknown code
---   looking_start, looking_on == such a position at the start, and one further
---   one_unknown, none_unknown == the two ends
-use Prim.Native.Nat.{ℕ, ◌+◌, ◌≤◌, ◌<◌}
-use mathlib.Core.Path.{◌≡◌, refl, ◌∙◌}
-use mathlib.Core.Bool.{Bool, true, false, not, ◌&&◌, ◌||◌}
-use mathlib.Core.List.{List, ◌∷◌}
-use native.Mathlib.Omega.{arith}
-use borrow.Author.Tests.{eq-eqb, ne_eqb}
-use lib.Dec.{eqb, leb}
-use lib.ListN.{length, get_or, drop, drop_of_length-le}
-use lib.Seq.{drop-length, get_or-drop}
-use Rattle.waves.specs.Reading.{is_scalar, is_vector, is_printed, after_space, code_in, unknown_code, unknown_from, unknown_in}
-use Rattle.scans.proofs.Ends.{here, first_there}
+--   one_unknown, looking_on   == the search for an unknown code, from one byte to the next
+use Rattle.std.proofs.Common.{◌≡◌, ℕ, ◌+◌, ◌-◌, ◌<◌, ◌≤◌, Bool, true, false, not, ◌&&◌, ◌||◌, eqb, leb, List, [], ◌∷◌, length, get_or, take, drop, refl, ◌∙◌, arith, length-drop, eq-eqb, ne_eqb, add-one, drop-cons, get_or-drop}
+use lib.ListN.{drop_of_length-le}
+use lib.Seq.{take_all}
+use native.Mathlib.Numerals.{unary_clauses}
+use Rattle.waves.specs.Reading.{is_scalar, is_vector, is_printed, after_space, code_in, unknown_code, unknown_from}
 
-pub record Spacing (s : List ℕ) (p i : ℕ) : Type 0 where
-  pub inside : i ≤ length s
-  pub same : after_space (drop p s) ≡ after_space (drop i s)
+pub here : (s : List ℕ) (i : ℕ) → i < length s → drop i s ≡ get_or s i 0 ∷ drop (i + 1) s
+here s i h = rw add-one (drop-cons s i 0 h)
 
-pub space_start : (s : List ℕ) (p : ℕ) → p ≤ length s → Spacing s p p
-space_start s p h = record { inside = h; same = refl }
+pub first_there : (s : List ℕ) (i : ℕ) → get_or (drop i s) 0 0 ≡ get_or s i 0
+first_there s i = simp unary_clauses at (get_or-drop i s 0 0)
 
-module _ (s : List ℕ) (p i : ℕ) (e : Spacing s p i) where
-  pub space_end : length s ≤ i → drop i s ≡ after_space (drop p s)
+pub rest : (s : List ℕ) (p : ℕ) → take (length s - p) (drop p s) ≡ drop p s
+rest s p = take_all (length s - p) (drop p s) (simp length-drop (omega arith))
+
+pub space_end : (s : List ℕ) (i : ℕ) → after_space s ≡ after_space (drop i s) → length s ≤ i → [] ≡ after_space s
+unfolding after_space
+space_end s i e h = rw (e, drop_of_length-le s h)
+
+module _ (s : List ℕ) (i : ℕ) (e : after_space s ≡ after_space (drop i s)) (more : i < length s) where
+  pub space_none : get_or s i 0 ≡ 10 → [] ≡ after_space s
   unfolding after_space
-  space_end h = rw (e.same, drop_of_length-le s h)
+  space_none t = rw e (simp (here s i more, eq-eqb (get_or s i 0) 10 t))
 
-  module _ (more : i < length s) where
-    pub space_none : get_or s i 0 ≡ 10 → drop (length s) s ≡ after_space (drop p s)
+  module _ (not_lf : get_or s i 0 ≡ 10 → ⊥) where
+    pub space_found : get_or s i 0 ≡ 32 → drop (i + 1) s ≡ after_space s
     unfolding after_space
-    space_none t = rw (drop-length s, e.same) (simp (here s i more, eq-eqb (get_or s i 0) 10 t))
+    space_found t = rw e (simp (here s i more, ne_eqb (get_or s i 0) 10 not_lf, eq-eqb (get_or s i 0) 32 t))
 
-    module _ (not_lf : get_or s i 0 ≡ 10 → ⊥) where
-      pub space_found : get_or s i 0 ≡ 32 → drop (i + 1) s ≡ after_space (drop p s)
-      unfolding after_space
-      space_found t = rw e.same (simp (here s i more, ne_eqb (get_or s i 0) 10 not_lf, eq-eqb (get_or s i 0) 32 t))
+    pub space_on : (get_or s i 0 ≡ 32 → ⊥) → after_space s ≡ after_space (drop (i + 1) s)
+    unfolding after_space
+    space_on t = e ∙ simp (here s i more, ne_eqb (get_or s i 0) 10 not_lf, ne_eqb (get_or s i 0) 32 t)
 
-      pub space_on : (get_or s i 0 ≡ 32 → ⊥) → Spacing s p (i + 1)
-      unfolding after_space
-      space_on t =
-          record { inside = omega arith; same = rw e.same (simp (here s i more, ne_eqb (get_or s i 0) 10 not_lf, ne_eqb (get_or s i 0) 32 t)) }
+-- the code of the line that s begins with
+pub no_line : (s : List ℕ) → length s ≡ 0 → [] ≡ code_in s
+unfolding code_in
+no_line [] h = refl
+no_line (b ∷ s) h = absurd (omega arith)
 
--- the code of the line at p
-module _ (s : List ℕ) (p : ℕ) (h : p < length s) (f : Bool) (ef : f ≡ is_scalar (get_or s p 0)) where
-  pub scalar : f ≡ true → drop (p + 1) s ≡ code_in (drop p s)
+module _ (s : List ℕ) (b : ℕ) (r : List ℕ) (e : s ≡ b ∷ r) (f : Bool) (ef : f ≡ is_scalar b) where
+  pub scalar : f ≡ true → r ≡ code_in s
   unfolding code_in
-  scalar t = simp (here s p h, ← ef, t)
+  scalar t = simp (e, ← ef, t)
 
-  module _ (no : f ≡ false) (g : Bool) (eg : g ≡ is_vector (get_or s p 0)) where
-    pub vector : (r : ℕ) → g ≡ true → drop r s ≡ after_space (drop (p + 1) s) → drop r s ≡ code_in (drop p s)
+  module _ (no : f ≡ false) (g : Bool) (eg : g ≡ is_vector b) where
+    pub vector : (t : List ℕ) → g ≡ true → t ≡ after_space r → t ≡ code_in s
     unfolding code_in
-    vector r t e = e ∙ simp (here s p h, ← ef, no, ← eg, t)
+    vector t h k = k ∙ simp (e, ← ef, no, ← eg, h)
 
-    pub no_change : g ≡ false → drop (length s) s ≡ code_in (drop p s)
+    pub no_change : g ≡ false → [] ≡ code_in s
     unfolding code_in
-    no_change t = drop-length s ∙ simp (here s p h, ← ef, no, ← eg, t)
+    no_change h = simp (e, ← ef, no, ← eg, h)
 
-pub code_known : (s : List ℕ) (p at a b : ℕ) (f g : Bool) → drop at s ≡ code_in (drop p s) → a ≡ get_or s at 0 → b ≡ get_or s (at + 1) 0 → f ≡ is_printed a → g ≡ is_printed b
-    → (f && not (leb a 43 && not g)) ≡ unknown_code (code_in (drop p s))
+pub code_known : (s code : List ℕ) (a b : ℕ) (f g : Bool) → code ≡ code_in s → a ≡ get_or code 0 0 → b ≡ get_or code 1 0 → f ≡ is_printed a → g ≡ is_printed b
+    → (f && not (leb a 43 && not g)) ≡ unknown_code (code_in s)
 unfolding unknown_code
-code_known s p at a b f g e ea eb ef eg = rw (← e, first_there s at, get_or-drop at s 1 0, ← ea, ← eb, ← ef, ← eg)
+code_known s code a b f g e ea eb ef eg = rw (← e, ← ea, ← eb, ← ef, ← eg)
 
--- the lines before i have known codes, and starts tells whether a line starts at i
-pub record Looking (s : List ℕ) (starts : Bool) (i : ℕ) : Type 0 where
-  pub inside : i ≤ length s
-  pub same : unknown_from false s ≡ unknown_from starts (drop i s)
+pub none_unknown : (s : List ℕ) (starts : Bool) (i : ℕ) → unknown_from false s ≡ unknown_from starts (drop i s) → length s ≤ i → false ≡ unknown_from false s
+unfolding unknown_from
+none_unknown s starts i e h = rw (e, drop_of_length-le s h)
 
-pub looking_start : (s : List ℕ) → Looking s false 0
-looking_start s = record { inside = omega arith; same = refl }
+module _ (s : List ℕ) (starts : Bool) (i : ℕ) (e : unknown_from false s ≡ unknown_from starts (drop i s)) (more : i < length s)
+    (u : Bool) (told : u ≡ unknown_code (code_in (take (length s - i) (drop i s))))
+  where
+    eu : u ≡ unknown_code (code_in (drop i s))
+    eu = rw (rest s i) at told
 
-module _ (s : List ℕ) (starts : Bool) (i : ℕ) (e : Looking s starts i) where
-  pub none_unknown : length s ≤ i → false ≡ unknown_in s
-  unfolding unknown_from
-  none_unknown h = rw (e.same, drop_of_length-le s h)
-
-  module _ (more : i < length s) (u : Bool) (eu : u ≡ unknown_code (code_in (drop i s))) where
     from_here : (f : Bool) → (starts && u) ≡ f → unknown_from starts (drop i s) ≡ (f || unknown_from (eqb (get_or s i 0) 10) (drop (i + 1) s))
     unfolding unknown_from
     from_here f t = let q : u ≡ unknown_code (code_in (get_or s i 0 ∷ drop (i + 1) s)) = rw (← here s i more) eu in rw (here s i more, ← q, t)
 
-    pub one_unknown : (starts && u) ≡ true → true ≡ unknown_in s
-    one_unknown t = rw (e.same, from_here true t)
+    pub one_unknown : (starts && u) ≡ true → true ≡ unknown_from false s
+    one_unknown t = rw (e, from_here true t)
 
-    pub looking_on : (starts && u) ≡ false → Looking s (eqb (get_or s i 0) 10) (i + 1)
-    looking_on t = record { inside = omega arith; same = e.same ∙ from_here false t }
+    pub looking_on : (starts && u) ≡ false → unknown_from false s ≡ unknown_from (eqb (get_or s i 0) 10) (drop (i + 1) s)
+    looking_on t = e ∙ from_here false t

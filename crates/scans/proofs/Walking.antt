@@ -1,119 +1,91 @@
 -- The walk over the lines of a step.
 --
---   one_bit, more_bits == the value of a line, by the width of its variable
---   walked_placed, walked_absent == one variable: its line is there, or not
---   inputs_walked, outputs_walked == all of a side, one after the other
---   shape_walked, cycle_walked == the whole step
-use Prim.Native.Nat.{ℕ, ◌+◌, ◌-◌, ◌≤◌}
-use mathlib.Core.Path.{◌≡◌, refl, sym, ap, ◌∙◌}
-use mathlib.Core.Bool.{Bool, true, false, not, ◌&&◌, ◌||◌, cond, and_assoc}
-use mathlib.Core.List.{List, [], ◌∷◌, ◌++◌}
-use native.Mathlib.Omega.{arith}
-use borrow.Author.Tests.{eq-eqb, ne_eqb}
-use lib.Dec.{eqb}
-use lib.ListN.{length, drop, length-drop}
-use lib.Seq.{drop-drop}
+--   value_one, value_more == the value of a line, by the width of its variable
+--   walk_absent, stray_absent, walk_placed, stray_placed == one variable: its line is there, or not, and may be
+--   then_walk, then_stray, more_stray == one walk after the other
+--   walk_whole == the whole step
+use Rattle.std.proofs.Common.{◌≡◌, ℕ, ◌+◌, ◌-◌, ◌≤◌, Bool, true, false, not, cond, ◌&&◌, ◌||◌, eqb, List, [], ◌∷◌, ◌++◌, length, take, drop, refl, sym, ap, ◌∙◌, arith, eq-eqb, ne_eqb, append_assoc, length-take-le, length-drop}
 use Rattle.rules.specs.declared.Inputs.{Inputs}
 use Rattle.rules.specs.declared.Outputs.{Outputs}
 use Rattle.rules.specs.declared.Cycle.{Cycle}
-use Rattle.rules.proofs.Choice.{order}
-use Rattle.formats.specs.Columns.{output_columns, input_values, output_values, cycle_values}
-use Rattle.waves.specs.Variables.{variables, size_of, coded}
+use Rattle.formats.specs.Columns.{input_columns, output_columns, input_values, output_values, cycle_values}
+use Rattle.waves.specs.Variables.{Variable, variables, size_of, coded}
 use Rattle.waves.specs.Reading.{placed, bits_in, value_in, shaped, values_in, cycle_of}
-use Rattle.scans.specs.Walks.{variable, Walked, InputsWalked, OutputsWalked}
-use Rattle.scans.proofs.Places.{placed_inside}
+use Rattle.scans.specs.Walks.{variable, Walk, Stray}
+use Rattle.scans.proofs.Bits.{bits_taken}
 
-module _ (w k : ℕ) (s : List ℕ) (p r : ℕ) where
-  pub one_bit : w ≡ 1 → r ≡ bits_in w (drop p s) → r ≡ value_in (variable w k) (drop p s)
+module _ (w k : ℕ) (s : List ℕ) (r : ℕ) (room : w + 1 ≤ length s) where
+  pub value_one : w ≡ 1 → r ≡ bits_in (length (take w s)) (take w s) → r ≡ value_in (variable w k) s
   unfolding value_in
-  one_bit e h = rw (eq-eqb w 1 e) h
+  value_one e h =
+      let n : length (take w s) ≡ w = length-take-le w s (omega arith) in
+      h ∙ rw (n, bits_taken w s, eq-eqb w 1 e)
 
-  pub more_bits : (w ≡ 1 → ⊥) → r ≡ bits_in w (drop (p + 1) s) → r ≡ value_in (variable w k) (drop p s)
+  pub value_more : (w ≡ 1 → ⊥) → r ≡ bits_in (length (take (w + 1 - 1) (drop 1 s))) (take (w + 1 - 1) (drop 1 s)) → r ≡ value_in (variable w k) s
   unfolding value_in
-  more_bits e h = rw (ne_eqb w 1 e, drop-drop 1 p s) h
+  value_more e h =
+      let j : w + 1 - 1 ≡ w = omega arith in
+      let n : length (take w (drop 1 s)) ≡ w = length-take-le w (drop 1 s) (omega (arith, length-drop 1 s)) in
+      h ∙ rw (j, n, bits_taken w (drop 1 s), ne_eqb w 1 e)
 
-module _ (all ok : Bool) (w k v : ℕ) (s : List ℕ) (p : ℕ) (found : Bool) (ef : found ≡ placed (variable w k) (drop p s)) where
-  pub walked_absent : p ≤ length s → found ≡ false → Walked all w k v s p ok (ok && not all) v p
+module _ (all : Bool) (w k v : ℕ) (s : List ℕ) (found : Bool) (ef : found ≡ placed (variable w k) s) where
+  pub stray_absent : found ≡ false → all ≡ true → Stray all (variable w k ∷ []) (v ∷ []) s
+  unfolding shaped
+  stray_absent t a = record { shape = λ xs vs. rw (← ef, t, a) }
+
+  pub walk_absent : found ≡ false → all ≡ false → Walk all (variable w k ∷ []) (v ∷ []) (v ∷ []) s s
   unfolding shaped values_in
-  walked_absent h t =
-      record {
-        shape = λ xs vs. rw (← ef, t) (sym (and_assoc ok (not all) (shaped all xs vs (drop p s))));
-        values = λ xs vs. rw (← ef, t);
-        inside = h;
-      }
+  walk_absent t a = record { shape = λ xs vs. rw (← ef, t) (ap (λ q. not q && shaped all xs vs s) a); values = λ xs vs. rw (← ef, t) }
 
-  module _ (value size : ℕ) (ev : value ≡ value_in (variable w k) (drop p s)) (es : size ≡ cond (eqb w 1) (w + 2) (w + 4)) where
-    pub walked_placed : found ≡ true → Walked all w k v s p ok (ok && (all || not (eqb value v))) value (p + size)
+  module _ (u size : ℕ) (eu : u ≡ value_in (variable w k) s) (es : size ≡ cond (eqb w 1) (w + 2) (w + 4)) (t : found ≡ true) where
+    pub walk_placed : (all || not (eqb u v)) ≡ true → Walk all (variable w k ∷ []) (v ∷ []) (u ∷ []) s (drop size s)
     unfolding shaped values_in size_of
-    walked_placed t =
-        record {
-          shape = λ xs vs. rw (← ef, t, ← ev, ← es, drop-drop size p s) (sym (and_assoc ok (all || not (eqb value v)) (shaped all xs vs (drop (p + size) s))));
-          values = λ xs vs. rw (← ef, t, ← ev, ← es, drop-drop size p s);
-          inside = rw es (placed_inside w k s p (sym ef ∙ t));
-        }
+    walk_placed a =
+        record { shape = λ xs vs. rw (← ef, t, ← eu, ← es, a); values = λ xs vs. rw (← ef, t, ← eu, ← es) }
 
-shape_end : (all : Bool) (n : ℕ) (s : List ℕ) → n ≤ length s → shaped all [] [] (drop n s) ≡ eqb n (length s)
+    pub stray_placed : (all || not (eqb u v)) ≡ false → Stray all (variable w k ∷ []) (v ∷ []) s
+    unfolding shaped
+    stray_placed a = record { shape = λ xs vs. rw (← ef, t, ← eu, a) }
+
+module _ {all : Bool} {ys : List Variable} {ws us s t : List ℕ} (a : Walk all ys ws us s t) where
+  pub then_walk : {zs : List Variable} {vs qs r : List ℕ} → Walk all zs vs qs t r → Walk all (ys ++ zs) (ws ++ vs) (us ++ qs) s r
+  then_walk {zs} {vs} {qs} {r} b =
+      record {
+        shape = λ xs ps. rw (append_assoc ys zs xs, append_assoc ws vs ps) (a.shape (zs ++ xs) (vs ++ ps) ∙ b.shape xs ps);
+        values = λ xs ps.
+            rw (append_assoc ys zs xs, append_assoc ws vs ps, append_assoc us qs (values_in xs ps r))
+            (a.values (zs ++ xs) (vs ++ ps) ∙ ap (λ l. us ++ l) (b.values xs ps));
+      }
+
+  pub then_stray : {zs : List Variable} {vs : List ℕ} → Stray all zs vs t → Stray all (ys ++ zs) (ws ++ vs) s
+  then_stray {zs} {vs} b =
+      record { shape = λ xs ps. rw (append_assoc ys zs xs, append_assoc ws vs ps) (a.shape (zs ++ xs) (vs ++ ps) ∙ b.shape xs ps) }
+
+pub more_stray : {all : Bool} {ys : List Variable} {ws s : List ℕ} → Stray all ys ws s → (zs : List Variable) (vs : List ℕ) → Stray all (ys ++ zs) (ws ++ vs) s
+more_stray {all} {ys} {ws} {s} a zs vs =
+    record { shape = λ xs ps. rw (append_assoc ys zs xs, append_assoc ws vs ps) (a.shape (zs ++ xs) (vs ++ ps)) }
+
+shape_end : (all : Bool) (t : List ℕ) → shaped all [] [] t ≡ eqb (length t) 0
 unfolding shaped
-shape_end all n s h =
-    rw (length-drop n s)
-    (order (length s) n
-    (λ l. rw (eq-eqb (length s - n) 0 (omega arith), eq-eqb n (length s) (omega arith)))
-    (λ l. rw (ne_eqb (length s - n) 0 (λ e. omega arith), ne_eqb n (length s) (λ e. omega arith))))
+shape_end all t = refl
 
-values_end : (s : List ℕ) → values_in [] [] s ≡ []
+values_end : (t : List ℕ) → values_in [] [] t ≡ []
 unfolding values_in
-values_end s = refl
+values_end t = refl
 
-module _ (all : Bool) (s : List ℕ) where
-  pub inputs_walked : (x : Inputs) (p : ℕ) (o1 o2 o3 o4 o5 : Bool) (u1 u2 u3 u4 u5 n1 n2 n3 n4 n5 : ℕ)
-      → Walked all 16 33 x.hbusreq s p true o1 u1 n1
-      → Walked all 16 34 x.hlock s n1 o1 o2 u2 n2
-      → Walked all 1 35 x.hready s n2 o2 o3 u3 n3
-      → Walked all 2 36 x.htrans s n3 o3 o4 u4 n4
-      → Walked all 3 37 x.hburst s n4 o4 o5 u5 n5
-      → InputsWalked all x s p o5 (record { hbusreq = u1; hlock = u2; hready = u3; htrans = u4; hburst = u5 }) n5
-  inputs_walked x p o1 o2 o3 o4 o5 u1 u2 u3 u4 u5 n1 n2 n3 n4 n5 a b c d e =
-      record {
-        shape = λ xs vs. a.shape _ _ ∙ b.shape _ _ ∙ c.shape _ _ ∙ d.shape _ _ ∙ e.shape xs vs;
-        values = λ xs vs.
-            a.values _ _
-            ∙ ap (λ l. u1 ∷ l) (b.values _ _)
-            ∙ ap (λ l. u1 ∷ u2 ∷ l) (c.values _ _)
-            ∙ ap (λ l. u1 ∷ u2 ∷ u3 ∷ l) (d.values _ _)
-            ∙ ap (λ l. u1 ∷ u2 ∷ u3 ∷ u4 ∷ l) (e.values xs vs);
-        inside = e.inside;
-      }
+module _ (all : Bool) (prev : Cycle) (s : List ℕ) where
+  pub no_inputs : Stray all (coded 33 input_columns) (input_values prev.inputs) s → shaped all variables (cycle_values prev) s ≡ false
+  no_inputs a = a.shape (coded 38 output_columns) (output_values prev.outputs)
 
-  pub outputs_walked : (x : Outputs) (p : ℕ) (o o1 o2 o3 o4 o5 o6 : Bool) (u1 u2 u3 u4 u5 u6 n1 n2 n3 n4 n5 n6 : ℕ)
-      → Walked all 16 38 x.hgrant s p o o1 u1 n1
-      → Walked all 4 39 x.hmaster s n1 o1 o2 u2 n2
-      → Walked all 1 40 x.hmastlock s n2 o2 o3 u3 n3
-      → Walked all 1 41 x.decide s n3 o3 o4 u4 n4
-      → Walked all 1 42 x.granted s n4 o4 o5 u5 n5
-      → Walked all 1 43 x.busreq s n5 o5 o6 u6 n6
-      → OutputsWalked all x s p o o6 (record { hgrant = u1; hmaster = u2; hmastlock = u3; decide = u4; granted = u5; busreq = u6 }) n6
-  outputs_walked x p o o1 o2 o3 o4 o5 o6 u1 u2 u3 u4 u5 u6 n1 n2 n3 n4 n5 n6 a b c d e f =
-      record {
-        shape = λ xs vs. a.shape _ _ ∙ b.shape _ _ ∙ c.shape _ _ ∙ d.shape _ _ ∙ e.shape _ _ ∙ f.shape xs vs;
-        values = λ xs vs.
-            a.values _ _
-            ∙ ap (λ l. u1 ∷ l) (b.values _ _)
-            ∙ ap (λ l. u1 ∷ u2 ∷ l) (c.values _ _)
-            ∙ ap (λ l. u1 ∷ u2 ∷ u3 ∷ l) (d.values _ _)
-            ∙ ap (λ l. u1 ∷ u2 ∷ u3 ∷ u4 ∷ l) (e.values _ _)
-            ∙ ap (λ l. u1 ∷ u2 ∷ u3 ∷ u4 ∷ u5 ∷ l) (f.values xs vs);
-        inside = f.inside;
-      }
+  module _ (x : Inputs) (t : List ℕ) (a : Walk all (coded 33 input_columns) (input_values prev.inputs) (input_values x) s t) where
+    pub no_outputs : Stray all (coded 38 output_columns) (output_values prev.outputs) t → shaped all variables (cycle_values prev) s ≡ false
+    no_outputs b = a.shape (coded 38 output_columns) (output_values prev.outputs) ∙ b.shape [] []
 
-  module _ (prev : Cycle) (p : ℕ) (x : Inputs) (y : Outputs) (o1 o2 : Bool) (n1 n2 : ℕ)
-      (a : InputsWalked all prev.inputs s p o1 x n1)
-      (b : OutputsWalked all prev.outputs s n1 o1 o2 y n2)
-    where
-      pub shape_walked : (o2 && eqb n2 (length s)) ≡ shaped all variables (cycle_values prev) (drop p s)
-      shape_walked =
-          sym (a.shape (coded 38 output_columns) (output_values prev.outputs) ∙ b.shape [] [] ∙ ap (λ q. o2 && q) (shape_end all n2 s b.inside))
+    module _ (y : Outputs) (r : List ℕ) (b : Walk all (coded 38 output_columns) (output_values prev.outputs) (output_values y) t r) where
+      pub shape_is : (f : Bool) → f ≡ eqb (length r) 0 → shaped all variables (cycle_values prev) s ≡ f
+      shape_is f e = a.shape (coded 38 output_columns) (output_values prev.outputs) ∙ b.shape [] [] ∙ shape_end all r ∙ sym e
 
-      pub cycle_walked : record { inputs = x; outputs = y } ≡ cycle_of (values_in variables (cycle_values prev) (drop p s))
+      pub cycle_is : record { inputs = x; outputs = y } ≡ cycle_of (values_in variables (cycle_values prev) s)
       unfolding cycle_of
-      cycle_walked =
-          sym (ap cycle_of (a.values (coded 38 output_columns) (output_values prev.outputs) ∙ ap (λ l. input_values x ++ l) (b.values [] [] ∙ ap (λ l. output_values y ++ l) (values_end (drop n2 s)))))
+      cycle_is =
+          sym (ap cycle_of (a.values (coded 38 output_columns) (output_values prev.outputs) ∙ ap (λ l. input_values x ++ l) (b.values [] [] ∙ ap (λ l. output_values y ++ l) (values_end r))))

@@ -1,4 +1,4 @@
-// Bytes and words at a position.
+// Words at a position.
 ghost use Rattle.std.specs.Prelude.{◌≡◌, ◌<◌, length, drop};
 ghost use Rattle.waves.specs.Header.{begins as begins_with};
 
@@ -6,11 +6,7 @@ ghost use Rattle.waves.specs.Header.{begins as begins_with};
 pub fn begins(s: &[u8], w: &[u8]) -> bool
     ensures { result ≡ begins_with s.now w.now }
 {
-    if s.len() < w.len() {
-        false
-    } else {
-        fields::text::starts_with(s, w)
-    }
+    s.starts_with(w)
 }
 
 // Whether the word w stands at a position.
@@ -18,9 +14,8 @@ pub fn begins_at(s: &[u8], p: usize, w: &[u8]) -> bool
     requires { 0 < length w.now }
     ensures { result ≡ begins_with (drop p s.now) w.now }
 {
-    if s.len() < p {
-        false
-    } else {
-        begins(&s[p..], w)
+    match s.get(p..) {
+        Some(rest) => begins(rest, w),
+        None => false,
     }
 }

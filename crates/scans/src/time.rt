@@ -1,5 +1,5 @@
 // The time of a step.
-ghost use Rattle.std.specs.Prelude.{◌≡◌, length};
+ghost use Rattle.std.specs.Prelude.{◌≡◌, ◌≤◌, true, false, length, take, drop, MatchOption};
 ghost use Rattle.waves.specs.Header.{begins};
 ghost use Rattle.waves.specs.Steps.{time_line};
 ghost use Rattle.waves.specs.Reading.{has_time, time_is};
@@ -16,29 +16,32 @@ pub fn has_time(s: &[u8]) -> bool
     (a == 35) & first & !((b == 48) & second)
 }
 
-// Whether the number of a step is the time t, whether its line is, and the bytes of that line.
-#[derive(Clone, Copy)]
-pub struct Time {
-    pub right: bool,
-    pub line: bool,
-    pub size: usize,
+// The line of the time t, at the start of the buffer; answers its bytes.
+fn put_line(t: u32, line: &mut [u8; 12]) -> usize
+    ensures size { (result ≡ length (time_line t)) × (2 ≤ result) × (result ≤ 12) }
+    ensures bytes { take result line.new ≡ time_line t }
+{
+    line[0] = b'#';
+    fields::text::put_decimal(line, 1, t, b'\n')
 }
 
-pub fn time_in(t: u32, s: &[u8]) -> Time
-    ensures right { result.right ≡ time_is t s.now }
-    ensures line { result.line ≡ begins s.now (time_line t) }
-    ensures size { result.size ≡ length (time_line t) }
+// Whether the number of a step is the time t.
+pub fn time_is(t: u32, s: &[u8]) -> bool
+    ensures { result ≡ time_is t s.now }
 {
-    let mut word = [0; 12];
-    word[0] = 35;
-    let size = fields::text::put_decimal(&mut word, 1, t, 10);
-    let line = crate::bytes::begins(s, &word[..size]);
-    let number = crate::bytes::begins(s, &word[..size - 1]);
+    let mut line = [0; 12];
+    let size = put_line(t, &mut line);
+    let number = crate::bytes::begins(s, &line[..size - 1]);
     let after = fields::text::byte_at(s, size - 1);
     let more = headers::is_decimal(after);
-    Time {
-        right: number & !more,
-        line,
-        size,
-    }
+    number & !more
+}
+
+// What stands after the line of the time t, if a step begins with it.
+pub fn after_line(t: u32, s: &[u8]) -> Option<&[u8]>
+    ensures { MatchOption result (begins s.now (time_line t) ≡ false) (λ rest. (begins s.now (time_line t) ≡ true) × (rest.now ≡ drop (length (time_line t)) s.now)) }
+{
+    let mut line = [0; 12];
+    let size = put_line(t, &mut line);
+    s.strip_prefix(&line[..size])
 }

@@ -2,11 +2,11 @@
 use Rattle.scans.proofs.Answers.{other_time, full, unknown, known}
 use Rattle.scans.proofs.step_in.Goals as goal
 
-pub returns-then-has-time : goal.returns-then-has-time
-returns-then-has-time c = search other_time
+pub returns-then-has-right : goal.returns-then-has-right
+returns-then-has-right c = search other_time
 
-pub returns-then-t-time : goal.returns-then-t-time
-returns-then-t-time c = search full
+pub returns-then-t-right : goal.returns-then-t-right
+returns-then-t-right c = search full
 
 pub returns-then-unknown_in : goal.returns-then-unknown_in
 returns-then-unknown_in c = search unknown

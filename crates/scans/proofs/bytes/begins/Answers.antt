@@ -1,10 +1,7 @@
 -- `begins` meets its contract.
-use mathlib.Core.Path.{sym, ◌∙◌}
-use Rattle.scans.proofs.Begins.{too_short, same_bytes}
+use Rattle.std.proofs.Common.{sym, ◌∙◌}
+use Rattle.scans.proofs.Begins.{begins_first}
 use Rattle.scans.proofs.bytes.begins.Goals as goal
 
-pub returns-then-s-w : goal.returns-then-s-w
-returns-then-s-w c = sym (too_short _ _ c.if-s-w.true)
-
-pub returns-else-s-w : goal.returns-else-s-w
-returns-else-s-w c = c.starts_with.ensures ∙ sym (same_bytes _ _ c.if-s-w.false)
+pub returns : goal.returns
+returns c = c.starts_with.ensures.value ∙ sym (begins_first c.args.s.now c.args.w.now)

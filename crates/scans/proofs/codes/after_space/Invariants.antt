@@ -1,11 +1,7 @@
--- `after_space` meets its contract. Measure: the bytes left.
-use Prim.Native.Nat.{◌-◌}
-use lib.ListN.{length}
-use Rattle.scans.proofs.Unknown.{Spacing}
+-- `after_space` meets its contract. The loop's invariant: the space is still to come.
+use Rattle.std.proofs.Common.{◌≡◌, drop}
+use Rattle.waves.specs.Reading.{after_space}
 use Rattle.scans.proofs.codes.after_space.Given as goal
 
 abbrev pub invariant-loop-i : goal.invariant-loop-i
-invariant-loop-i l = Spacing l.s l.p l.i
-
-abbrev pub decreases-loop-i : goal.decreases-loop-i
-decreases-loop-i l = length l.s - l.i
+invariant-loop-i l = after_space l.s ≡ after_space (drop l.i l.s)

@@ -1,11 +1,7 @@
--- `unknown_in` meets its contract. Measure: the bytes left.
-use Prim.Native.Nat.{◌-◌}
-use lib.ListN.{length}
-use Rattle.scans.proofs.Unknown.{Looking}
+-- `unknown_in` meets its contract. The loop's invariant: an unknown code is still to come.
+use Rattle.std.proofs.Common.{◌≡◌, false, drop}
+use Rattle.waves.specs.Reading.{unknown_from}
 use Rattle.scans.proofs.codes.unknown_in.Given as goal
 
 abbrev pub invariant-loop-i : goal.invariant-loop-i
-invariant-loop-i l = Looking l.s l.starts l.i
-
-abbrev pub decreases-loop-i : goal.decreases-loop-i
-decreases-loop-i l = length l.s - l.i
+invariant-loop-i l = unknown_from false l.s ≡ unknown_from l.starts (drop l.i l.s)

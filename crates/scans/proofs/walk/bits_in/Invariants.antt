@@ -1,9 +1,6 @@
--- `bits_in` meets its contract. Measure: the characters left.
+-- `bits_in` meets its contract. The loop's invariant: the characters so far are bits, and v is their number.
 use Rattle.scans.proofs.Bits.{Reading}
 use Rattle.scans.proofs.walk.bits_in.Given as goal
 
-abbrev pub invariant-loop-left : goal.invariant-loop-left
-invariant-loop-left l = Reading l.width l.s l.p l.good l.v l.top l.i l.left
-
-abbrev pub decreases-loop-left : goal.decreases-loop-left
-decreases-loop-left l = l.left
+abbrev pub invariant-loop-b : goal.invariant-loop-b
+invariant-loop-b l = Reading l.s l.v l.b-index

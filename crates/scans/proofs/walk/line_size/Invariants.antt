@@ -1,11 +1,7 @@
--- `line_size` meets its contract. Measure: the bytes left.
-use Prim.Native.Nat.{◌-◌}
-use lib.ListN.{length}
-use Rattle.scans.proofs.Sizes.{Sizing}
+-- `line_size` meets its contract. The loop's invariant: the LF is still to come.
+use Rattle.std.proofs.Common.{◌≡◌, ◌+◌, drop}
+use Rattle.waves.specs.Reading.{line_size}
 use Rattle.scans.proofs.walk.line_size.Given as goal
 
 abbrev pub invariant-loop-i : goal.invariant-loop-i
-invariant-loop-i l = Sizing l.s l.p l.i
-
-abbrev pub decreases-loop-i : goal.decreases-loop-i
-decreases-loop-i l = length l.s - l.i
+invariant-loop-i l = line_size l.s ≡ l.i + line_size (drop l.i l.s)
