@@ -11,11 +11,11 @@ use mathlib.Core.List.{List, [], ◌∷◌, ◌++◌, append-nil}
 use native.Mathlib.Omega.{arith}
 use native.Mathlib.Nat.{add-zero}
 use native.Mathlib.Numerals.{add-one}
-use borrow.Author.Tests.{eqb-true, ltb-true, lt-ltb}
-use lib.Dec.{eqb, ltb}
+use borrow.Author.Tests.{eqb-true}
+use lib.Dec.{eqb}
 use lib.ListN.{length, get_or, take, drop, length-drop, get_or-append, take-append-drop}
 use lib.Seq.{take-suc, take-length, drop-length, get_or-drop}
-use Rattle.rules.proofs.Choice.{either, order, differ, and_left, and_right, and_both}
+use Rattle.rules.proofs.Choice.{either, order, and_left, and_right}
 use Rattle.formats.specs.Digits.{lf}
 use Rattle.waves.specs.Steps.{hash}
 use Rattle.waves.specs.Reading.{up_to}
@@ -109,12 +109,3 @@ module _ (s : List ℕ) where
               few = omega arith;
             });
       }
-
--- the test of a search that goes back from the end of a block, over k bytes of n
-module _ (k n : ℕ) where
-  pub goes_back : (ltb k 105 && ltb k n) ≡ true → (k < 105) × (k < n)
-  goes_back e = (ltb-true k 105 (and_left (ltb k 105) (ltb k n) e), ltb-true k n (and_right (ltb k 105) (ltb k n) e))
-
-  pub all_back : (ltb k 105 && ltb k n) ≡ false → 105 ≤ n → 105 ≤ k
-  all_back e h =
-      order 105 k (λ l. l) (λ l. absurd (differ (ltb k 105 && ltb k n) (and_both (lt-ltb k 105 l) (lt-ltb k n (omega arith))) e))

@@ -1,27 +1,28 @@
 -- One step of a dump, taken or refused.
 --
---   line_here, no_line_here, all_counted == the lines in so many bytes, counted from the last
+--   lines_counted == the lines in some bytes, as the library counts them
 --   read_as == what was read, as a match tells it
 --   stepped, stepped_out, stepped_none == a step that is taken; one that is refused; and none
 --   sound   == what is known of a step that was read, from a position that is well formed
 use Rattle.std.specs.Prelude.{Err, None, Ok, Some}
-use Prim.Native.Nat.{ℕ, suc, ◌+◌, ◌-◌, ◌*◌, ◌≤◌, ◌<◌}
-use mathlib.Core.Path.{◌≡◌, refl, sym, ◌∙◌, ap}
-use mathlib.Core.Bool.{true, false, cond, true≢false}
+use Rattle.std.specs.Prelude.{nat_eq}
+use Rattle.std.specs.List.{count_by, fold}
+use Prim.Native.Nat.{ℕ, suc, ◌+◌, ◌*◌, ◌≤◌, ◌<◌}
+use mathlib.Core.Path.{◌≡◌, refl, sym, ◌∙◌}
+use mathlib.Core.Bool.{Bool, true, false, cond, true≢false}
 use mathlib.Core.List.{List, [], ◌∷◌}
 use native.Mathlib.Omega.{arith}
-use native.Mathlib.Nat.{add-zero}
-use borrow.Author.Tests.{leb-true, ne_eqb}
+use native.Mathlib.Nat.{add-zero, zero-add}
+use borrow.Author.Tests.{leb-true}
 use lib.Dec.{eqb, leb}
-use lib.ListN.{length, get_or, take}
-use lib.Seq.{sets, sets-eq, take-suc}
+use lib.ListN.{length, take}
+use lib.Seq.{sets, sets-eq}
 use Rattle.rules.specs.declared.Refusal.{Refusal}
 use Rattle.rules.specs.declared.Cycle.{Cycle}
 use Rattle.rules.specs.Codes.{fewest_masters, most_masters, most_cycles}
 use Rattle.rules.specs.Valid.{cycle_check}
 use Rattle.rules.proofs.Choice.{and_right}
 use Rattle.formats.specs.Results.{TraceRead}
-use Rattle.formats.specs.Digits.{lf}
 use Rattle.formats.specs.Lines.{trace_line}
 use Rattle.formats.specs.Report.{refused_line}
 use Rattle.formats.proofs.Limits.{valid_line}
@@ -31,7 +32,6 @@ use Rattle.glances.proofs.Valid.{cycle_passed, masks_below}
 use Rattle.prints.specs.Prints.{Fits, FitsOut}
 use Rattle.waves.specs.Reading.{read_step_of}
 use Rattle.waves.specs.Files.{lines_in}
-use Rattle.waves.proofs.Near.{lines_append}
 use Rattle.conversions.specs.declared.Position.{Position}
 use Rattle.conversions.specs.Positions.{after, position_formed}
 use Rattle.conversions.specs.Undumping.{undump_turn}
@@ -45,25 +45,17 @@ none_taken : (t : Turn Position) → goes_on t ≡ false → taken_by t ≡ 0
 none_taken (goes bytes s next) e = absurd (true≢false e)
 none_taken (stops bytes) e = refl
 
--- the lines in i bytes, by the last of them
-module _ (s : List ℕ) (i : ℕ) (some : 1 ≤ i) (inside : i ≤ length s) where
-  lines_last : lines_in (take i s) ≡ lines_in (take (i - 1) s) + cond (eqb (get_or s (i - 1) 0) lf) 1 0
-  unfolding lines_in
-  lines_last =
-      let at : i ≡ suc (i - 1) = omega arith in
-      ap (λ k. lines_in (take k s)) at
-      ∙ ap lines_in (take-suc s (i - 1) 0 (omega arith))
-      ∙ lines_append (take (i - 1) s) (get_or s (i - 1) 0 ∷ [])
-
-  pub line_here : get_or s (i - 1) 0 ≡ lf → lines_in (take i s) ≡ lines_in (take (i - 1) s) + 1
-  line_here e = lines_last ∙ rw e
-
-  pub no_line_here : (get_or s (i - 1) 0 ≡ lf → ⊥) → lines_in (take i s) ≡ lines_in (take (i - 1) s)
-  no_line_here e = let q = rw (ne_eqb (get_or s (i - 1) 0) lf e) at lines_last in omega (arith, q)
-
-pub all_counted : (s : List ℕ) (n i lines : ℕ) → i ≤ 0 → lines + lines_in (take i s) ≡ lines_in (take n s) → lines ≡ lines_in (take n s)
+counted_from : (a : ℕ) (s : List ℕ) → fold (λ a x. a + cond (nat_eq x 10) 1 0) a s ≡ a + lines_in s
 unfolding lines_in
-all_counted s n i lines h e = let z : i ≡ 0 = omega arith in sym (add-zero lines) ∙ rw z at e
+counted_from a [] = sym (add-zero a)
+counted_from a (b ∷ s) = counted_from (a + cond (nat_eq b 10) 1 0) s ∙ go (nat_eq b 10)
+  where
+    go : (f : Bool) → a + cond f 1 0 + lines_in s ≡ a + cond f (suc (lines_in s)) (lines_in s)
+    go true = omega arith
+    go false = omega arith
+
+pub lines_counted : (s : List ℕ) → count_by (λ b. nat_eq b 10) s ≡ lines_in s
+lines_counted s = counted_from 0 s ∙ zero-add (lines_in s)
 
 module _ (p : Position) (rest : List ℕ) (a : TraceRead) (e : a ≡ read_step_of p.n p.count p.before rest 0) (buffer : List ℕ) where
   -- what was read, as it is told

@@ -16,13 +16,11 @@ pub fn cut(s: &[u8]) -> usize
     ensures { CutAt s.now result }
 {
     let n = s.len();
-    let mut kept: usize = 1;
-    while (kept < 105) & (kept < n) {
+    for kept in 1..n.min(105) {
         let taken = n - kept;
         if ends_at(s, taken - 1) {
             return taken;
         }
-        kept += 1;
     }
     if n < 105 { 0 } else { n }
 }

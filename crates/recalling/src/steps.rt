@@ -21,20 +21,12 @@ struct Went {
     position: Position,
 }
 
-// The LFs among the first n bytes.
-fn lines_in(s: &[u8], n: usize) -> u32
-    requires { (n ≤ 104) × (n ≤ length s.now) }
-    ensures { result ≡ lines_in (front n s.now) }
+// The LFs of a step.
+fn lines_in(s: &[u8]) -> u32
+    requires { length s.now ≤ 104 }
+    ensures { result ≡ lines_in s.now }
 {
-    let mut lines: u32 = 0;
-    let mut i = n;
-    while 0 < i {
-        i -= 1;
-        if s[i] == b'\n' {
-            lines += 1;
-        }
-    }
-    lines
+    s.iter().filter(|b| **b == b'\n').count() as u32
 }
 
 // A step that was read: its trace line is written.
@@ -64,7 +56,7 @@ fn read(p: Position, rest: &[u8], out: &mut [u8]) -> Went
 {
     let before = p.before;
     match scans::read_step(p.n, p.count, before, rest, 0) {
-        Ok(Some((c, next))) => go(p, rest, c, next, lines_in(rest, next), out),
+        Ok(Some((c, next))) => go(p, rest, c, next, lines_in(&rest[..next]), out),
         Ok(None) => Went {
             written: 0,
             taken: 0,
