@@ -7,7 +7,7 @@
 --   last_closes == the last read: what is kept comes to an end
 --   onward, closed == what is known of a turn
 --   nearer    == one that went on has fewer lines to come, or keeps more bytes
-use Rattle.std.specs.Prelude.{Option, Result, None, Some, Err, Ok}
+use Rattle.std.specs.Prelude.{Result, None, Some, Err, Ok}
 use Prim.Native.Nat.{ℕ, zero, suc, ◌+◌, ◌*◌, ◌-◌, ◌/◌, ◌%◌, ◌≤◌, ◌<◌}
 use mathlib.Core.Path.{◌≡◌, refl, sym, ◌∙◌, ap}
 use mathlib.Core.List.{List, [], ◌∷◌, ◌++◌}
@@ -17,9 +17,8 @@ use lib.ListN.{length, take, drop, length-take, length-drop, length-append, take
 use lib.Seq.{length-take-le}
 use Rattle.rules.specs.Codes.{most_cycles}
 use Rattle.formats.specs.Results.{HeaderRead}
-use Rattle.streams.specs.Streams.{Turn, on, stretch}
+use Rattle.streams.specs.Streams.{Turn, stretch}
 use Rattle.streams.specs.Blocks.{room_for}
-use Rattle.streams.specs.Stays.{kept}
 use Rattle.streams.proofs.Counted.{used}
 use Rattle.console.specs.declared.Ending.{Ending}
 use Rattle.console.specs.Fed.{Fill}
