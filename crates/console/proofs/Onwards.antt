@@ -126,10 +126,11 @@ less (suc lines) count most taken read k k' rest few none some all h =
 module _ {S : Type 0} {turn : S → List ℕ → Turn S} {formed : S → Type 0} {count : S → ℕ} {header : List ℕ → HeaderRead} {begin : ℕ → S} {Cut : List ℕ → List ℕ → Type 0}
     {rest least : ℕ} (L : Laws turn formed count header begin Cut rest least) where
   -- of k bytes that were kept in a buffer, and k' after
-  pub nearer : (s t : S) (k k' : ℕ) (old new : List ℕ) → rest < length old → rest < length new → k ≤ rest → formed s
-      → Onward turn Cut s (take k old) t (take k' new)
+  pub nearer : {breaches : S → ℕ} (s t : S) (k k' : ℕ) (old new : List ℕ) → rest < length old → rest < length new → k ≤ rest → formed s
+      → Turned breaches turn Cut s (take k old) new (Ok (t, k'))
       → formed t × (k' ≤ rest) × ((most_cycles - count t) * (rest + 1) + (rest - k') < (most_cycles - count s) * (rest + 1) + (rest - k))
-  nearer s t k k' old new h h' below f o =
+  nearer s t k k' old new h h' below f turned =
+      let o = onward turned in
       let u = used turn L.steps count L.counts (length o.lines) s t o.lines o.bytes (omega arith) o.taken in
       let all : length (take k old) + length o.read ≡ length o.lines + length (take k' new) =
       sym (length-append (take k old) o.read) ∙ ap length o.all ∙ length-append o.lines (take k' new) in
