@@ -4,10 +4,9 @@
 --   headed  == what a header comes to where it has room
 use Rattle.std.specs.Prelude.{Result, Err, Ok}
 use Prim.Native.Nat.{ℕ, ◌≤◌}
-use mathlib.Core.Path.{◌≡◌, refl, sym, ◌∙◌}
+use mathlib.Core.Path.{◌≡◌, refl}
 use mathlib.Core.Bool.{true}
 use mathlib.Core.List.{List}
-use native.Mathlib.Omega.{arith}
 use borrow.Author.Tests.{le-ltb}
 use Rattle.rules.specs.declared.State.{State}
 use Rattle.rules.specs.State.{reset_state, well_formed}

@@ -3,7 +3,7 @@
 --   begun_by, refused_by == a header that is accepted begins the program, and one that is refused ends it
 --   begun_formed         == what is kept after one that is accepted is well formed
 --   not_given            == a program ends so where a write failed
-use Rattle.std.specs.Prelude.{Result, Err, Ok}
+use Rattle.std.specs.Prelude.{Err, Ok}
 use Prim.Native.Nat.{ℕ}
 use mathlib.Core.Path.{◌≡◌, refl}
 use mathlib.Core.Bool.{Bool, true, false, cond}

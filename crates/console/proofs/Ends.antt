@@ -1,31 +1,20 @@
 -- How a program ends, case by case.
 --
---   met       == what the answer of a block says is what its stretch says
 --   met_on    == where the program goes on, its stretch did
 --   met_came  == where it ends, that is what comes of its stretch
 --   ends_last, ends_stopped == the same at the end of the input
-use Rattle.std.specs.Prelude.{Result, Err, Ok}
+use Rattle.std.specs.Prelude.{Err, Ok}
 use Prim.Native.Nat.{ℕ}
-use mathlib.Core.Path.{◌≡◌, refl, ◌∙◌, ap}
+use mathlib.Core.Path.{◌≡◌, refl, ap}
 use mathlib.Core.Bool.{Bool, true, false, cond}
 use mathlib.Core.List.{List}
 use native.Mathlib.Omega.{arith}
-use Rattle.streams.specs.declared.Progress.{Progress}
 use Rattle.streams.specs.Streams.{Stretch, on, done}
-use Rattle.streams.specs.Blocks.{progress_of}
 use Rattle.console.specs.declared.Ending.{Ending}
-use Rattle.console.specs.declared.Ending.TheVariants.{Refused, Unwritten}
-use Rattle.console.specs.Going.{goes_on_after}
-use Rattle.console.specs.Ends.{ends_of, outcome, Answered, Met, EndsAfter, Came}
+use Rattle.console.specs.declared.Ending.TheVariants.{Unwritten}
+use Rattle.console.specs.Ends.{ends_of, outcome, Met, EndsAfter, Came}
 
 module _ {S : Type 0} where
-  answer_is : (x : Stretch S) → cond (goes_on_after (progress_of x).flow) (Ok (progress_of x).kept) (Err Refused) ≡ outcome x
-  answer_is (on bytes s) = refl
-  answer_is (done bytes s) = refl
-
-  pub met : (x : Stretch S) (p : Progress S) (r : Result S Ending) → p ≡ progress_of x → Answered p r → Met x r
-  met x p r e a = let b = rw e at a in (b.0, b.1 ∙ ap (λ (o : Result S Ending). cond b.0 o (Err Unwritten)) (answer_is x))
-
   pub met_on : (x : Stretch S) (t : S) → Met x (Ok t) → (bytes : List ℕ) × (x ≡ on bytes t)
   met_on x t m = go x m.0 m.1
     where

@@ -7,7 +7,7 @@
 --   last_closes == the last read: what is kept comes to an end
 --   onward, closed == what is known of a turn
 --   nearer    == one that went on has fewer lines to come, or keeps more bytes
-use Rattle.std.specs.Prelude.{Option, Result, None, Some, Err, Ok}
+use Rattle.std.specs.Prelude.{Result, None, Some, Err, Ok}
 use Prim.Native.Nat.{ℕ, zero, suc, ◌+◌, ◌*◌, ◌-◌, ◌/◌, ◌%◌, ◌≤◌, ◌<◌}
 use mathlib.Core.Path.{◌≡◌, refl, sym, ◌∙◌, ap}
 use mathlib.Core.List.{List, [], ◌∷◌, ◌++◌}
@@ -17,9 +17,8 @@ use lib.ListN.{length, take, drop, length-take, length-drop, length-append, take
 use lib.Seq.{length-take-le}
 use Rattle.rules.specs.Codes.{most_cycles}
 use Rattle.formats.specs.Results.{HeaderRead}
-use Rattle.streams.specs.Streams.{Turn, on, stretch}
+use Rattle.streams.specs.Streams.{Turn, stretch}
 use Rattle.streams.specs.Blocks.{room_for}
-use Rattle.streams.specs.Stays.{kept}
 use Rattle.streams.proofs.Counted.{used}
 use Rattle.console.specs.declared.Ending.{Ending}
 use Rattle.console.specs.Fed.{Fill}
@@ -127,10 +126,11 @@ less (suc lines) count most taken read k k' rest few none some all h =
 module _ {S : Type 0} {turn : S → List ℕ → Turn S} {formed : S → Type 0} {count : S → ℕ} {header : List ℕ → HeaderRead} {begin : ℕ → S} {Cut : List ℕ → List ℕ → Type 0}
     {rest least : ℕ} (L : Laws turn formed count header begin Cut rest least) where
   -- of k bytes that were kept in a buffer, and k' after
-  pub nearer : (s t : S) (k k' : ℕ) (old new : List ℕ) → rest < length old → rest < length new → k ≤ rest → formed s
-      → Onward turn Cut s (take k old) t (take k' new)
+  pub nearer : {breaches : S → ℕ} (s t : S) (k k' : ℕ) (old new : List ℕ) → rest < length old → rest < length new → k ≤ rest → formed s
+      → Turned breaches turn Cut s (take k old) new (Ok (t, k'))
       → formed t × (k' ≤ rest) × ((most_cycles - count t) * (rest + 1) + (rest - k') < (most_cycles - count s) * (rest + 1) + (rest - k))
-  nearer s t k k' old new h h' below f o =
+  nearer s t k k' old new h h' below f turned =
+      let o = onward turned in
       let u = used turn L.steps count L.counts (length o.lines) s t o.lines o.bytes (omega arith) o.taken in
       let all : length (take k old) + length o.read ≡ length o.lines + length (take k' new) =
       sym (length-append (take k old) o.read) ∙ ap length o.all ∙ length-append o.lines (take k' new) in

@@ -187,8 +187,7 @@ pub fn tell<F: Files, W: Drop>(files: &F, e: Ending, output: Output<W>) {
 
 // Whether the descriptor is open for writing, as the mode of the link that stands for it says.
 fn listens<F: Files>(files: &F) -> bool {
-    match files.symlink_metadata(LISTENER) {
-        Ok(link) => link.permissions().mode() & 0o200 != 0,
-        Err(_) => false,
-    }
+    files
+        .symlink_metadata(LISTENER)
+        .is_ok_and(|link| link.permissions().mode() & 0o200 != 0)
 }

@@ -79,9 +79,7 @@ pub fn heading<K: Copy>(p: Progress<K>) -> Result<(usize, K), usize>
 {
     match p.flow {
         Flow::GoesOn => Ok((p.written, p.kept)),
-        Flow::Stopped => Err(p.written),
-        Flow::Short => Err(p.written),
-        Flow::Unformed => Err(p.written),
+        Flow::Stopped | Flow::Short | Flow::Unformed => Err(p.written),
     }
 }
 
@@ -167,6 +165,7 @@ fn take_last<P: Program, W: Write>(
 }
 
 // One read, behind the so many bytes that are kept: what is kept then, and how many bytes; or how the program ends.
+#[tactic(auto, using(crate::proofs::Onwards::last_closes))]
 fn turn<P: Program, R: Read, W: Write>(
     input: &mut R,
     output: &mut Output<W>,

@@ -1,5 +1,4 @@
 -- `begin` meets its contract: what the header comes to, and the run after one that is accepted.
-use Rattle.std.proofs.Common.{refl}
 use Rattle.console.specs.Ran.{unwritten}
 use Rattle.console.proofs.Begun.{begun_by, refused_by, begun_formed, not_given}
 use Rattle.console.proofs.program.begin.Goals as goal

@@ -13,8 +13,7 @@ loop-next-smaller g c =
     let i = c.loop-next.invariant in
     let h : p.rest < length c.loop-next.block = omega (arith, c.requires.held.more) in
     let h' : p.rest < length c.turn.new.block = omega (arith, c.requires.held.more) in
-    let o = onward c.in-Ok.ensures in
-    (nearer g.met.P.Program.laws _ _ _ _ _ _ h h' i.size i.formed o).2
+    (nearer g.met.P.Program.laws _ _ _ _ _ _ h h' i.size i.formed c.in-Ok.ensures).2
 
 pub loop-next-preserved : goal.loop-next-preserved
 loop-next-preserved g c =
@@ -22,9 +21,8 @@ loop-next-preserved g c =
     let i = c.loop-next.invariant in
     let h : p.rest < length c.loop-next.block = omega (arith, c.requires.held.more) in
     let h' : p.rest < length c.turn.new.block = omega (arith, c.requires.held.more) in
-    let o = onward c.in-Ok.ensures in
-    let n = nearer g.met.P.Program.laws _ _ _ _ _ _ h h' i.size i.formed o in
-    record { formed = n.0; size = n.1; way = further i.way o }
+    let n = nearer g.met.P.Program.laws _ _ _ _ _ _ h h' i.size i.formed c.in-Ok.ensures in
+    record { formed = n.0; size = n.1; way = further i.way (onward c.in-Ok.ensures) }
 
 pub returns-in-Err : goal.returns-in-Err
 returns-in-Err g c =
