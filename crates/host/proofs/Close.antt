@@ -9,19 +9,17 @@
 --   ready_sound    == a reset that is not refused gives a well-formed state
 --   reset_short, reset_refused, reset_ready == the ends of a reset
 use Rattle.std.specs.Prelude.{Result, Some, None, Ok, Err}
-use Prim.Native.Nat.{ℕ, ◌+◌, ◌≤◌, ◌<◌}
+use Prim.Native.Nat.{ℕ, ◌≤◌, ◌<◌}
 use mathlib.Core.Path.{◌≡◌, refl, sym, ◌∙◌, ap}
-use mathlib.Core.Bool.{Bool, true, false, false≢true}
+use mathlib.Core.Bool.{Bool, true, false}
 use mathlib.Core.List.{List, [], ◌++◌, append-nil}
 use native.Mathlib.Omega.{arith}
-use borrow.Author.Tests.{ltb-true}
-use lib.Dec.{ltb}
 use lib.ListN.{length, get_or, take, drop, drop_of_length-le}
 use lib.Seq.{sets, sets-eq}
 use Rattle.std.proofs.lemmas.Option.{same_Some}
 use Rattle.rules.specs.declared.Refusal.{Refusal}
 use Rattle.rules.specs.declared.Refusal.TheVariants as refusal
-use Rattle.rules.specs.Results.{Check, Start}
+use Rattle.rules.specs.Results.{Check}
 use Rattle.rules.specs.declared.State.{State}
 use Rattle.rules.specs.declared.Inputs.{Inputs}
 use Rattle.rules.specs.declared.Outputs.{Outputs}
@@ -39,11 +37,10 @@ use Rattle.rulebook.specs.Step.{number_of}
 use Rattle.arbitration.proofs.Close.{malformed, full, bad}
 use Rattle.formats.specs.Lines.{trace_line}
 use Rattle.words.proofs.Words.{put_back}
-use Rattle.buses.specs.declared.Bus.{Bus}
-use Rattle.buses.specs.Buses.{state_from, Fit}
+use Rattle.buses.specs.Buses.{state_from}
 use Rattle.hosting.specs.Results.{Lent}
 use Rattle.hosting.specs.Bytes.{state_bytes, is_state, state_in, bytes_state}
-use Rattle.hosting.specs.Calls.{Display, as_line, of_answer, of_lent, host_step, host_reset, state_stored, cycle_stored, StepCall, ResetCall}
+use Rattle.hosting.specs.Calls.{Display, of_answer, of_lent, host_step, state_stored, cycle_stored, StepCall, ResetCall}
 use Rattle.hosting.proofs.Bytes.{first_state}
 use Rattle.hosting.proofs.Calls.{short_state, short_shown, short_reset, plain_reset, long_enough, follows}
 use Rattle.octets.specs.declared.Held.{Held}
@@ -51,9 +48,8 @@ use Rattle.octets.specs.Octets.{sound_in, Holds}
 use Rattle.glances.specs.Glances.{Driven}
 use Rattle.glances.proofs.Shown.{driven}
 use Rattle.prints.specs.Prints.{Fits}
-use Rattle.host.specs.Tests.{passes}
-use Rattle.host.specs.Entry.{Takes, Ready, Enters, Cycled, Small}
-use Rattle.host.proofs.Inputs.{fits_of, good_of}
+use Rattle.host.specs.Entry.{Ready, Enters, Cycled, Small}
+use Rattle.host.proofs.Inputs.{fits_of}
 
 -- bytes that no well-formed state has
 unsound : (S : List ℕ) (x : Inputs) → sound_in S ≡ false → of_lent (bytes_state S) x ≡ Err refusal.State

@@ -23,6 +23,7 @@ fn valid(n: u32, x: Inputs) -> bool
 }
 
 // The state of a cycle that a step takes, or the first refusal of 10, 8, 4, 5, 6.
+#[inline(always)]
 fn enter(x: Inputs, state: &[u8; 12]) -> Result<Held, Refusal>
     ensures { Enters x state.now result }
 {
