@@ -26,7 +26,8 @@ use Rattle.streams.specs.Blocks.{progress_of, bytes_of}
 use Rattle.streams.specs.Turns.{over, bytes_in, state_after, Put, Lined}
 use Rattle.streams.proofs.Lines.{stepping}
 use Rattle.streams.proofs.Sizes.{refused_size, went, ended}
-use Rattle.streams.proofs.Stretches.{Program, Ended}
+use Rattle.streams.specs.Going.{Program}
+use Rattle.streams.proofs.Stretches.{Ended}
 use Rattle.waves.specs.Steps.{dump_step}
 use Rattle.waves.proofs.Promises.{steps_are_short}
 use Rattle.conversions.specs.declared.Position.{Position}

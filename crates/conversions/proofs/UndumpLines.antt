@@ -23,7 +23,8 @@ use Rattle.streams.specs.Blocks.{progress_of, Stepping, Cutting, bytes_of}
 use Rattle.streams.specs.Turns.{over, bytes_in, state_after, taken_by, Put, Lined}
 use Rattle.streams.proofs.Sizes.{refused_size, went, ended}
 use Rattle.streams.proofs.Counted.{Counting}
-use Rattle.streams.proofs.Stretches.{Program, Ended}
+use Rattle.streams.specs.Going.{Program}
+use Rattle.streams.proofs.Stretches.{Ended}
 use Rattle.waves.specs.Reading.{read_step_of}
 use Rattle.waves.specs.Files.{lines_in}
 use Rattle.conversions.specs.declared.Position.{Position}

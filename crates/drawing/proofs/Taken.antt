@@ -1,17 +1,15 @@
 -- One trace line, drawn or not.
 --
 --   line_drawn == a line that was read, in time, goes on with its step
---   left_untaken == at the end of the loop no line is drawn
+--   short_untaken == what is no whole line is not drawn
 --   stops_full == a good line after the last cycle is refusal 8
 use Rattle.std.specs.Prelude.{Ok, Some}
-use Prim.Native.Nat.{ℕ, ◌-◌, ◌<◌}
+use Prim.Native.Nat.{ℕ, ◌<◌}
 use mathlib.Core.Path.{◌≡◌, refl, sym, ◌∙◌}
-use mathlib.Core.Bool.{Bool, true, false, ◌&&◌}
+use mathlib.Core.Bool.{true, false}
 use mathlib.Core.List.{List}
 use native.Mathlib.Omega.{arith}
-use borrow.Author.Tests.{leb-false}
-use lib.Dec.{leb}
-use lib.ListN.{length, drop, length-drop}
+use lib.ListN.{length}
 use Rattle.rules.specs.declared.Refusal.TheVariants.{Full}
 use Rattle.rules.specs.declared.Cycle.{Cycle}
 use Rattle.rules.specs.Codes.{most_cycles}
@@ -38,10 +36,5 @@ module _ (p : Position) where
       → Put (refused_line p.line Full) buffer k out → Lined p (dump_turn p rest) buffer k false p out
   stops_full rest buffer out a c n k stop e g put = drawn_full p rest a e buffer k out c n g (stop.full c n (sym e ∙ g)) put
 
-  short_untaken : (rest : List ℕ) → length rest < 31 → NotTaken p rest
+  pub short_untaken : (rest : List ℕ) → length rest < 31 → NotTaken p rest
   short_untaken rest h = record { full = λ c k q. absurd (omega (arith, (trace_line_lem p.n rest c k q).1)) }
-
-  pub left_untaken : (block : List ℕ) (at : ℕ) (on : Bool) → (on ≡ false → NotTaken p (drop at block)) → (on && leb 31 (length block - at)) ≡ false
-      → NotTaken p (drop at block)
-  left_untaken block at true f e = short_untaken (drop at block) (simp length-drop (leb-false 31 (length block - at) e))
-  left_untaken block at false f e = f refl

@@ -7,24 +7,19 @@ ghost use Rattle.waves.specs.Steps.{dump_step};
 ghost use Rattle.conversions.specs.Positions.{after, position_formed};
 ghost use Rattle.conversions.specs.Dumping.{dump_turn};
 ghost use Rattle.conversions.specs.Blocks.{dump_room, dump_stretch};
+ghost use Rattle.conversions.proofs.Positions.{Formed};
+ghost use Rattle.conversions.proofs.DumpLines.{dump_program_lem};
 ghost use Rattle.drawing.specs.Stops.{NotTaken};
 
 use conversions::Position;
 use glances::DigitTable;
 use rules::{Cycle, Refusal};
-use streams::{Flow, Progress};
+use streams::{Progress, Taking};
 
-// What a cycle comes to: the bytes written, and where the conversion stands after it.
-#[derive(Clone, Copy)]
-struct Gone {
-    written: usize,
-    position: Position,
-}
-
-// A cycle in time: its step is written.
-fn go(p: Position, c: Cycle, out: &mut [u8]) -> Gone
+// A cycle in time: where the conversion stands after it, and how many bytes its step has.
+fn go(p: Position, c: Cycle, out: &mut [u8]) -> (Position, usize)
     requires { (position_formed p ≡ true) × (p.count < most_cycles) × (104 ≤ length out.old) }
-    ensures { Put (dump_step p.before p.count c) out.old result.written out.new × (result.position ≡ after p c 1) }
+    ensures { Put (dump_step p.before p.count c) out.old result.1 out.new × (result.0 ≡ after p c 1) }
 {
     let before = p.before;
     let written = dumps::put_step(before, p.count, c, out);
@@ -34,7 +29,7 @@ fn go(p: Position, c: Cycle, out: &mut [u8]) -> Gone
         before: c,
         line: p.line + 1,
     };
-    Gone { written, position }
+    (position, written)
 }
 
 // A line that is not taken: that of its refusal, which is 8 for a good line after the last cycle.
@@ -49,39 +44,61 @@ fn stop(p: Position, rest: &[u8], out: &mut [u8]) -> usize
     }
 }
 
+// A trace drawn, line by line.
+#[derive(Drop)]
+struct Drawing {
+    digits: DigitTable,
+}
+
+impl Taking for Drawing {
+    type Kept = Position;
+
+    type State = Position;
+
+    ghost state = { λ t p. p };
+
+    ghost ready = { λ t p. Unit };
+
+    ghost turn = { dump_turn };
+
+    ghost formed = { Formed };
+
+    ghost least = { 31 };
+
+    ghost most = { 104 };
+
+    fn take(
+        &self,
+        p: Position,
+        rest: &[u8],
+        out: &mut [u8],
+    ) -> Result<(Position, usize, usize), usize> {
+        if rest.len() < 31 {
+            return Err(stop(p, rest, out));
+        }
+        match self.digits.see_trace(p.n, rest) {
+            Some(c) if p.count < 1000000 => {
+                let (next, written) = go(p, c, out);
+                Ok((next, 31, written))
+            }
+            _ => Err(stop(p, rest, out)),
+        }
+    }
+
+    fn state(&self, p: Position) -> Position {
+        p
+    }
+
+    ghost laws = { dump_program_lem };
+}
+
 // A block, line after line.
 pub fn run(p: Position, block: &[u8], out: &mut [u8]) -> Progress<Position>
     requires { (position_formed p ≡ true) × (dump_room block.now ≤ length out.old) }
     ensures { (result ≡ progress_of (dump_stretch p block.now)) × (out.new ≡ over (bytes_of (dump_stretch p block.now)) out.old) }
 {
-    let digits = DigitTable::new();
-    let mut position = p;
-    let mut at: usize = 0;
-    let mut w: usize = 0;
-    let mut on = true;
-    while on & (31 <= block.len() - at) {
-        match digits.see_trace(position.n, &block[at..]) {
-            Some(c) if position.count < 1000000 => {
-                let gone = go(position, c, &mut out[w..]);
-                let next = gone.position;
-                position = next;
-                w += gone.written;
-                at += 31;
-            }
-            _ => on = false,
-        }
-    }
-    if at < block.len() {
-        w += stop(position, &block[at..], &mut out[w..]);
-        return Progress {
-            written: w,
-            flow: Flow::Stopped,
-            kept: position,
-        };
-    }
-    Progress {
-        written: w,
-        flow: Flow::GoesOn,
-        kept: position,
-    }
+    let drawing = Drawing {
+        digits: DigitTable::new(),
+    };
+    streams::take_block(&drawing, p, block, out)
 }

@@ -4,7 +4,7 @@
 --   formed_masters == a well-formed state has a number of masters that is served
 --   gone           == a cycle that is taken: its trace line, and the state after it
 --   line_taken     == what a cycle comes to is what its line does
---   left_untaken   == at the end of the loop no line is taken
+--   short_untaken   == what is no whole line is not taken
 --   full, stops_full == a good line after the last cycle is refusal 8
 use Rattle.std.specs.Prelude.{Err, Ok, Some}
 use Prim.Native.Nat.{ℕ, ◌+◌, ◌-◌, ◌≤◌, ◌<◌}
@@ -84,10 +84,5 @@ stops_full s rest buffer out a x n k f stop e g put =
 
 -- where no line is taken: at no whole line, and at the end of the loop
 module _ (s : State) where
-  short_untaken : (rest : List ℕ) → length rest < 16 → NotTaken s rest
+  pub short_untaken : (rest : List ℕ) → length rest < 16 → NotTaken s rest
   short_untaken rest h = record { full = λ x k q. absurd (omega (arith, whole_line s.n rest x k q)) }
-
-  pub left_untaken : (block : List ℕ) (at : ℕ) (on : Bool) → (on ≡ false → NotTaken s (drop at block)) → (on && leb 16 (length block - at)) ≡ false
-      → NotTaken s (drop at block)
-  left_untaken block at true f e = short_untaken (drop at block) (simp length-drop (leb-false 16 (length block - at) e))
-  left_untaken block at false f e = f refl

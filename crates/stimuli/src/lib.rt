@@ -10,12 +10,13 @@ ghost use Rattle.streams.specs.Arbiter.{stepped, arbiter_turn};
 ghost use Rattle.streams.specs.Blocks.{arbiter_room, progress_of, arbiter_stretch, bytes_of};
 ghost use Rattle.streams.specs.Turns.{Lined, over};
 ghost use Rattle.buses.specs.Buses.{state_from, Fit};
+ghost use Rattle.streams.proofs.Arbitrated.{arbiter_program_lem};
 ghost use Rattle.stimuli.specs.Stops.{NotTaken};
 
 use buses::Bus;
 use glances::DigitTable;
 use rules::{Cycle, Inputs, Refusal, State};
-use streams::{Flow, Progress};
+use streams::{Progress, Taking};
 
 // A cycle that the arbiter takes: the trace line of its stimulus line is written.
 fn go(n: u32, b: Bus, x: Inputs, rest: &[u8], out: &mut [u8]) -> Bus
@@ -44,40 +45,55 @@ fn stop(s: State, rest: &[u8], out: &mut [u8]) -> usize
     }
 }
 
+// The arbiter of so many masters, as it takes its lines.
+#[derive(Drop)]
+struct Arbiter {
+    digits: DigitTable,
+    n: u32,
+}
+
+impl Taking for Arbiter {
+    type Kept = Bus;
+
+    type State = State;
+
+    ghost state = { λ t b. state_from t.n b };
+
+    ghost ready = { λ t b. Fit b };
+
+    ghost turn = { arbiter_turn };
+
+    ghost formed = { WellFormed };
+
+    ghost least = { 16 };
+
+    ghost most = { 31 };
+
+    fn take(&self, b: Bus, rest: &[u8], out: &mut [u8]) -> Result<(Bus, usize, usize), usize> {
+        if rest.len() < 16 {
+            return Err(stop(buses::state(self.n, b), rest, out));
+        }
+        match self.digits.see_stimulus(self.n, rest) {
+            Some(x) if b.count < 1000000 => Ok((go(self.n, b, x, rest, out), 16, 31)),
+            _ => Err(stop(buses::state(self.n, b), rest, out)),
+        }
+    }
+
+    fn state(&self, b: Bus) -> State {
+        buses::state(self.n, b)
+    }
+
+    ghost laws = { arbiter_program_lem };
+}
+
 // A block, line after line.
 pub fn run(s: State, block: &[u8], out: &mut [u8]) -> Progress<State>
     requires { WellFormed s × (arbiter_room block.now ≤ length out.old) }
     ensures { (result ≡ progress_of (arbiter_stretch s block.now)) × (out.new ≡ over (bytes_of (arbiter_stretch s block.now)) out.old) }
 {
-    let digits = DigitTable::new();
-    let n = s.n;
-    let mut bus = buses::bus_of(s);
-    let mut at: usize = 0;
-    let mut w: usize = 0;
-    let mut on = true;
-    while on & (16 <= block.len() - at) {
-        match digits.see_stimulus(n, &block[at..]) {
-            Some(x) if bus.count < 1000000 => {
-                let next = go(n, bus, x, &block[at..], &mut out[w..]);
-                bus = next;
-                at += 16;
-                w += 31;
-            }
-            _ => on = false,
-        }
-    }
-    let state = buses::state(n, bus);
-    if at < block.len() {
-        w += stop(state, &block[at..], &mut out[w..]);
-        return Progress {
-            written: w,
-            flow: Flow::Stopped,
-            kept: state,
-        };
-    }
-    Progress {
-        written: w,
-        flow: Flow::GoesOn,
-        kept: state,
-    }
+    let arbiter = Arbiter {
+        digits: DigitTable::new(),
+        n: s.n,
+    };
+    streams::take_block(&arbiter, buses::bus_of(s), block, out)
 }

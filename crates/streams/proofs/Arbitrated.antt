@@ -36,7 +36,8 @@ use Rattle.streams.specs.Turns.{over, bytes_in, state_after, Put, Lined}
 use Rattle.streams.proofs.Lines.{stepping}
 use Rattle.streams.proofs.Near.{arbiter_by_lines}
 use Rattle.streams.proofs.Sizes.{refused_size, went, ended}
-use Rattle.streams.proofs.Stretches.{Program, Ended}
+use Rattle.streams.specs.Going.{Program}
+use Rattle.streams.proofs.Stretches.{Ended}
 
 pub shown_good : (s : State) (x : Inputs) (a : Answer) (t : State) (o : Outputs) → a ≡ step_of s x → a ≡ Ok (t, o)
     → for_masters s.n (cycle_check s.n (record { inputs = x; outputs = o })) ≡ Ok tt

@@ -34,7 +34,8 @@ use Rattle.streams.proofs.Near.{judge_by_lines}
 use Rattle.streams.specs.Turns.{over, bytes_in, state_after, Put, Lined}
 use Rattle.streams.specs.Breaches.{Reported, Formed}
 use Rattle.streams.proofs.Sizes.{refused_size, end_size, breach_size, went, ended}
-use Rattle.streams.proofs.Stretches.{Program, Ended}
+use Rattle.streams.specs.Going.{Program}
+use Rattle.streams.proofs.Stretches.{Ended}
 
 few_flagged : (l : List Bool) (rs : List Rule) → length (flagged l rs) ≤ length rs
 unfolding flagged

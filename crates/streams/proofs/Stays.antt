@@ -20,7 +20,7 @@ use Rattle.streams.specs.Streams.{Turn, goes, stops, Stretch, on, done, before, 
 use Rattle.streams.specs.Blocks.{tally_formed}
 use Rattle.streams.specs.Breaches.{Formed}
 use Rattle.streams.specs.Stays.{kept, ArbiterStaysFormed, TallyStaysFormed}
-use Rattle.streams.proofs.Stretches.{Program}
+use Rattle.streams.specs.Going.{Program}
 use Rattle.streams.proofs.Arbitrated.{arbiter_program_lem}
 use Rattle.streams.proofs.Judged.{judge_program_lem}
 

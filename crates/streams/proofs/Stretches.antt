@@ -1,6 +1,5 @@
 -- A block taken line by line, for any program that goes by lines.
 --
---   Program .. == a line writes no more than most bytes, and what is kept stays well formed
 --   Ended ..   == how the block ended: all its bytes, and the state
 --   begun      == a loop stands so at the start
 --   same_size, room, lent == the buffer keeps its length, and has room for one line more
@@ -22,9 +21,10 @@ use Rattle.rules.proofs.Choice.{and_left, and_right}
 use Rattle.rules.proofs.Flags.{flag_most}
 use Rattle.words.proofs.Words.{part_rest}
 use Rattle.streams.specs.Streams.{Turn, goes, stops, Stretch, on, done, before, step, stretch}
-use Rattle.streams.specs.Blocks.{Stepping, ByLines, room_for}
+use Rattle.streams.specs.declared.Flow.TheVariants.{GoesOn, Stopped}
+use Rattle.streams.specs.Blocks.{Stepping, ByLines, room_for, progress_of, bytes_of}
 use Rattle.streams.specs.Turns.{over, bytes_in, goes_on, state_after, taken_by, Lined}
-use Rattle.streams.specs.Going.{whole, Going}
+use Rattle.streams.specs.Going.{whole, Program, Going}
 use Rattle.streams.proofs.Parts.{written_on}
 use Rattle.streams.proofs.Lines.{taken}
 
@@ -76,12 +76,6 @@ module _ {S : Type 0} (turn : S → List ℕ → Turn S) {width longest : ℕ} (
   unfolding stretch
   nothing_left s [] h = refl
   nothing_left s (b ∷ rest) h = absurd (omega arith)
-
-pub record Program {S : Type 0} (turn : S → List ℕ → Turn S) (width most : ℕ) (Formed : S → Type 0) : Type 0 where
-  pub longest : ℕ
-  pub lines : Stepping width longest turn
-  pub few : (s : S) (rest : List ℕ) → Formed s → length (bytes_in (turn s rest)) ≤ most
-  pub stays : (s : S) (rest : List ℕ) → Formed s → Formed (state_after s (turn s rest))
 
 pub record Ended {S : Type 0} (turn : S → List ℕ → Turn S) (s₀ : S) (block out₀ : List ℕ) (end : List ℕ → S → Stretch S)
     (s : S) (out : List ℕ) (w : ℕ) : Type 0 where
@@ -217,6 +211,16 @@ module _ {S : Type 0} {turn : S → List ℕ → Turn S} {width most : ℕ} {For
                       ∙ ap (before g.bytes) (line_stops turn M.lines s (drop at block) bytes some_left q)
                       ∙ rw (q, is);
                 }
+
+-- what a call answers for the block, stopped or used up
+module _ {S : Type 0} {turn : S → List ℕ → Turn S} {s₀ : S} {block out₀ : List ℕ} {s : S} {out : List ℕ} {w : ℕ} where
+  pub block_stopped : Ended turn s₀ block out₀ done s out w
+      → (record { written = w; flow = Stopped; kept = s } ≡ progress_of (whole turn s₀ block)) × (out ≡ over (bytes_of (whole turn s₀ block)) out₀)
+  block_stopped e = (rw (e.is, e.size), rw e.is e.puts)
+
+  pub block_used : Ended turn s₀ block out₀ on s out w
+      → (record { written = w; flow = GoesOn; kept = s } ≡ progress_of (whole turn s₀ block)) × (out ≡ over (bytes_of (whole turn s₀ block)) out₀)
+  block_used e = (rw (e.is, e.size), rw e.is e.puts)
 
 -- A loop that takes whole lines as long as it goes on: its test, and its measure, which is what is left of the block and whether it goes on.
 module _ (width : ℕ) (block : List ℕ) (at : ℕ) (on : Bool) where

@@ -1,7 +1,10 @@
-// What the programs keep from one block of input to the next. What they write stands in specs/.
+// What the programs keep from one block of input to the next, and the loop over a block. What they write stands in specs/.
 #![tactic(auto)]
 
+mod taking;
+
 use rulebook::Judge;
+pub use taking::{Taking, take_block};
 
 // How a block ended: all of it was used and more may come; or the program stopped. Nothing was done where the lent buffer
 // is too short (9), or where what was kept is not well formed (10).
