@@ -1,47 +1,16 @@
 -- Hex digits: what the arithmetic of the readers and writers comes to.
 --
 --   or_none none d      == the digit d, and none where d is no digit
---   decimal_read, letter_read, none_read == a byte's digit, by the three cases
 --   joined_by_sum       == one digit more: a sum and one test say what two tests say
 --   number_one          == a column of one digit
 --   mask_good, mask_bad == a column of four, by their sum
 --   small_char          == the character of a number below ten
-use Rattle.std.proofs.Common.{◌≡◌, ℕ, ◌+◌, ◌-◌, ◌*◌, ◌%◌, ◌<◌, ◌≤◌, cond, ltb, List, get_or, sym, refl, ◌∙◌, add-zero, zero-add, arith, le-ltb, lt-ltb}
+use Rattle.std.proofs.Common.{◌≡◌, ℕ, ◌+◌, ◌*◌, ◌%◌, ◌<◌, ◌≤◌, cond, ltb, List, get_or, sym, refl, ◌∙◌, add-zero, zero-add, arith, le-ltb, lt-ltb}
 use Rattle.rules.proofs.Choice.{order}
 use Rattle.formats.specs.Digits.{hex_char, hex_digit, joined, number_at}
 
 abbrev pub or_none : ℕ → ℕ → ℕ
 or_none none d = cond (ltb d 16) d none
-
--- what is asked of a byte's digit: the value, and a bound that keeps sums small
-abbrev Read : ℕ → ℕ → ℕ → Type 0
-Read b none r = (r ≡ or_none none (hex_digit b)) × (r ≤ none + 15)
-
-found : (b none r : ℕ) → hex_digit b ≡ r → r < 16 → Read b none r
-found b none r e h = (simp (e, lt-ltb r 16 h), omega arith)
-
-pub decimal_read : (b none : ℕ) → 48 ≤ b → b ≤ 57 → Read b none (b - 48)
-unfolding hex_digit
-decimal_read b none l h = found b none (b - 48) (simp (le-ltb b 48 l, lt-ltb b 58 (omega arith))) (omega arith)
-
-pub letter_read : (b none : ℕ) → 97 ≤ b → b ≤ 102 → Read b none (b - 87)
-unfolding hex_digit
-letter_read b none l h =
-    found b none (b - 87)
-    (simp (le-ltb b 48 (omega arith), le-ltb b 58 (omega arith), le-ltb b 97 l, lt-ltb b 103 (omega arith))) (omega arith)
-
-pub none_read : (b none : ℕ) → (48 ≤ b → b ≤ 57 → ⊥) → (97 ≤ b → b ≤ 102 → ⊥) → Read b none none
-unfolding hex_digit
-none_read b none f g =
-    let e : hex_digit b ≡ 16 =
-    order 48 b
-    (λ l48. let h58 : 58 ≤ b = order 58 b (λ h. h) (λ h. absurd (f l48 (omega arith))) in
-    order 97 b
-    (λ l97. let h103 : 103 ≤ b = order 103 b (λ h. h) (λ h. absurd (g l97 (omega arith))) in
-    simp (le-ltb b 48 l48, le-ltb b 58 h58, le-ltb b 97 l97, le-ltb b 103 h103))
-    (λ u97. simp (le-ltb b 48 l48, le-ltb b 58 h58, lt-ltb b 97 u97)))
-    (λ u48. simp (lt-ltb b 48 u48)) in
-    (simp e, omega arith)
 
 -- high is w, or top where w is too large; low is a digit, or too large for the sum
 pub joined_by_sum : (top high low w none : ℕ) → top * 16 ≤ none → high ≡ cond (ltb w top) w top

@@ -24,6 +24,7 @@ pub fn for_masters(n: u32, k: Result<(), Refusal>) -> Result<(), Refusal>
 }
 
 // The digit that a byte writes in lower case, and `none` where it writes none.
+#[tactic(auto, unfolding(formats::specs::Digits::hex_digit))]
 pub fn digit_or(b: u8, none: u32) -> u32
     ensures { (result ≡ (if nat_lt (hex_digit b) 16 then hex_digit b else none)) × (result ≤ none + 15) }
 {
@@ -82,6 +83,7 @@ pub fn trace_parted(s: &[u8], p: usize) -> bool
         & (s[p + 30] == 10)
 }
 
+#[tactic(auto, unfolding(formats::specs::Digits::hex_char))]
 fn hex_char(d: u32) -> u8
     requires { d < 16 }
     ensures { result ≡ hex_char d }

@@ -13,6 +13,7 @@ pub fn apart(b: u8) -> u64
 }
 
 // HREADY, HTRANS and HBURST, if they are not bad.
+// Stays: `bad` beside the columns, here and in Flags, as CodesSeen and FlagsSeen say it: the tests of a line are joined into one number.
 #[derive(Clone, Copy)]
 pub struct Codes {
     pub bad: u64,

@@ -11,6 +11,7 @@ use kinds::Line;
 use rules::{Cycle, Inputs, Refusal};
 
 // The tests of a trace line: HMASTER alone has room for a character that is no digit.
+#[tactic(auto, unfolding(formats::specs::Lines::line_check))]
 pub fn check_line(n: u32, c: Cycle) -> Result<(), Refusal>
     ensures { result ≡ line_check n c }
 {
