@@ -3,7 +3,7 @@
 --   some_winner == where some bit is high, the walk ends at a master
 --   decided     == DECIDE is high exactly where neither the lock nor the burst holds the bus
 --   chooses_zero, chooses_winner, chooses_none == the three ends of the choice
-use Rattle.std.specs.Prelude.{Some, IsSome}
+use Rattle.std.specs.Prelude.{None, Some}
 use Prim.Native.Nat.{ℕ, zero, suc, ◌^◌, ◌≤◌, ◌<◌}
 use mathlib.Core.Path.{◌≡◌, refl, sym, ◌∙◌, ap}
 use mathlib.Core.Bool.{Bool, true, false, not, ◌&&◌, cond, true≢false}
@@ -28,11 +28,12 @@ use Rattle.signals.proofs.Flags.{as_flag, both, high, small, low_number}
 use Rattle.buses.specs.declared.Bus.{Bus}
 use Rattle.buses.specs.Buses.{phase_from, state_from, low_after, decide_of, Runs, Chooses}
 
-pub some_winner : (n g m : ℕ) (f : Found) → m < 2 ^ n → eqb m 0 ≡ false → f ≡ winner n g m → IsSome f
-some_winner n g m f below some walk =
+pub some_winner : (n g m : ℕ) (f : Found) → m < 2 ^ n → eqb m 0 ≡ false → f ≡ winner n g m → f ≡ None → ⊥
+some_winner n g m f below some walk none =
     let r = some_is_high n m below (eqb-false m 0 some) in
     let v = winner_won n g m r.at r.there r.is_high in
-    rw (walk ∙ v.found)
+    let z : ◌≡◌ {A = ℕ} 0 1 = cc v.found in
+    omega arith
 
 -- `|` is 0 exactly where both its parts are
 or_zero : (i j : ℕ) → (eqb i 0 && eqb j 0) ≡ eqb (bit_or i j) 0

@@ -23,11 +23,15 @@ pub struct Now {
 }
 
 // The grant after a decision that some master asked for.
+// Stays: with unwrap() the step with numbers takes 1.26 times the instructions of the C, and 1.2 times are allowed; with the match 1.14.
 fn winner(n: u32, g: u32, m: u32) -> u32
     requires { (n ≤ 16) × (g < n) × (m < 2 ^ n) × (eqb m 0 ≡ false) }
     ensures { winner_of n g m ≡ Some result }
 {
-    walk::winner(n, g, m).unwrap()
+    match walk::winner(n, g, m) {
+        Some(i) => i,
+        None => 0,
+    }
 }
 
 // What a cycle with GRANTED low chooses: the grant and GRANTED after it, and DECIDE.

@@ -2,5 +2,5 @@
 use Rattle.buses.proofs.Decision.{some_winner}
 use Rattle.buses.proofs.turn.winner.Goals as goal
 
-pub unwrap-requires : goal.unwrap-requires
-unwrap-requires c = search some_winner
+pub returns-in-None : goal.returns-in-None
+returns-in-None c = absurd (search some_winner)
