@@ -9,7 +9,7 @@ ghost use Rattle.host.specs.Entry.{Enters, Cycles, Small};
 use octets::Held;
 use rules::{Inputs, Outputs, Refusal};
 
-// Whether a stimulus is valid for n, with few tests.
+// Whether a stimulus is valid for n, with few tests. Only where it is not are the tests made that name a refusal.
 fn valid(n: u32, x: Inputs) -> bool
     requires { n ≤ 16 }
     ensures { result ≡ passes (inputs_check n x) }

@@ -4,13 +4,12 @@
 use Prim.Native.Nat.{ℕ, zero, suc, ◌+◌, ◌*◌, ◌/◌, ◌%◌, ◌≤◌}
 use mathlib.Core.Path.{◌≡◌, sym, ◌∙◌}
 use mathlib.Core.Bool.{Bool, true, false, ◌&&◌, ◌||◌}
-use mathlib.Core.List.{List, append-nil}
+use mathlib.Core.List.{List}
 use native.Mathlib.Omega.{arith}
 use borrow.Author.Tests.{leb-true, le-leb, eqb-true}
 use lib.Dec.{eqb, leb, ltb}
-use lib.ListN.{length, get_or, drop_of_length-le}
+use lib.ListN.{get_or}
 use Rattle.std.specs.Int.{w32, from_le_bytes}
-use Rattle.rules.specs.declared.State.{State}
 use Rattle.rules.specs.State.{phase_ok, well_formed}
 use Rattle.rules.proofs.Choice.{and_left, and_right, and_both}
 use Rattle.words.specs.Words.{number_low}
@@ -18,8 +17,7 @@ use Rattle.words.proofs.Words.{Bytes, slots, four_read}
 use Rattle.buses.specs.declared.Bus.{Bus}
 use Rattle.buses.specs.Buses.{phase_from, phase_number, state_from}
 use Rattle.buses.proofs.Phases.{number_of}
-use Rattle.hosting.specs.Bytes.{state_bytes, phase_of, is_state, state_in}
-use Rattle.hosting.specs.Calls.{state_stored}
+use Rattle.hosting.specs.Bytes.{phase_of, is_state, state_in}
 use Rattle.octets.specs.Octets.{sound_in, small, place_of, fitting, Holds}
 use Rattle.octets.proofs.Places.{same_flag, Small, small_of, of_small}
 

@@ -6,6 +6,7 @@ ghost use Rattle.std.proofs.lemmas.List.Edits.{sets};
 ghost use Rattle.words.specs.Words.{low_first, number_low};
 
 // The number of the first four bytes.
+// Stays: four and eight are two, since no trait of the library has from_le_bytes, and one here would be longer than both.
 pub fn four(s: &[u8]) -> u32
     requires { 4 ≤ length s.now }
     ensures { result ≡ number_low 4 s.now 0 }
