@@ -19,10 +19,8 @@ pub fn spread(b: u64) -> u64
     (copies / 0x80 & 0x101010101010101) + 0x3030303030303030
 }
 
-// Stays: the writers take the buffer and a position (new form no plainer: with the buffer's tail in their place each caller adds up sizes and cuts
-// the tail again, as `let b = a + put_vector(.., &mut buf[a..])`).
-
 // Writes eight bits.
+// Stays: a buffer and a position (with the buffer's tail in their place each caller adds up sizes and cuts the tail again: no plainer).
 fn put_byte(b: u32, buf: &mut [u8], at: usize)
     requires { (b < 256) × (at + 8 ≤ length buf.old) }
     ensures { buf.new ≡ sets buf.old at (bits 8 b) }
@@ -72,7 +70,7 @@ fn put_vector(width: usize, all: bool, code: u8, v: u32, u: u32, buf: &mut [u8],
 }
 
 // The line of a variable of one bit.
-// Stays: beside put_vector (new form no plainer: their lines have another shape, without `b` and the space, so one function would be the two arms).
+// Stays: beside put_vector (its line has no `b` and no space, so one function would be these two as its arms: no plainer).
 fn put_scalar(all: bool, code: u8, v: u32, u: u32, buf: &mut [u8], at: usize) -> usize
     requires { at + 3 ≤ length buf.old }
     ensures { Put buf.old at (changed all (variable 1 code) v u) 3 result buf.new }

@@ -1,7 +1,6 @@
 -- The bytes of a line, one by one.
 --
 --   size_found, size_on, size_end == at its LF, at another byte, and at the end of the text
---   size_within == they are in the text
 use Rattle.std.proofs.Common.{◌≡◌, ℕ, suc, ◌+◌, ◌<◌, ◌≤◌, List, length, get_or, drop, arith, eq-eqb, ne_eqb}
 use lib.ListN.{drop_of_length-le}
 use Rattle.waves.specs.Reading.{line_size}

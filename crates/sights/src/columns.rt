@@ -14,8 +14,7 @@ pub fn flag(code: u8, s: &[u8]) -> Option<(u32, &[u8])>
         return None;
     }
     match line {
-        [b'0', _, b'\n'] => Some((0, rest)),
-        [b'1', _, b'\n'] => Some((1, rest)),
+        [bit @ b'0'..=b'1', _, b'\n'] => Some(((*bit - 48) as u32, rest)),
         _ => None,
     }
 }
