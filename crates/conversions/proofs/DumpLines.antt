@@ -2,7 +2,6 @@
 --
 --   drawn_on, drawn_full, read_none, read_refused == the four ends of a line
 --   dump_program_lem    == it goes by lines, none of which writes more bytes than a step, and the position stays well formed
---   block_stopped, block_used == the two ends of a block
 use Rattle.std.specs.Prelude.{Err, None, Ok, Some}
 use Prim.Native.Nat.{ℕ, ◌≤◌, ◌<◌}
 use mathlib.Core.Path.{◌≡◌, refl, sym, ap, ◌∙◌}
@@ -20,20 +19,15 @@ use Rattle.rules.proofs.Choice.{either}
 use Rattle.formats.specs.Results.{TraceRead}
 use Rattle.formats.specs.Lines.{read_trace_of}
 use Rattle.formats.specs.Report.{refused_line}
-use Rattle.streams.specs.declared.Flow.TheVariants.{GoesOn, Stopped}
-use Rattle.streams.specs.Streams.{on, done}
-use Rattle.streams.specs.Blocks.{progress_of, bytes_of}
-use Rattle.streams.specs.Turns.{over, bytes_in, state_after, Put, Lined}
+use Rattle.streams.specs.Turns.{bytes_in, state_after, Put, Lined}
 use Rattle.streams.proofs.Lines.{stepping}
 use Rattle.streams.proofs.Sizes.{refused_size, went, ended}
 use Rattle.streams.specs.Going.{Program}
-use Rattle.streams.proofs.Stretches.{Ended}
 use Rattle.waves.specs.Steps.{dump_step}
 use Rattle.waves.proofs.Promises.{steps_are_short}
 use Rattle.conversions.specs.declared.Position.{Position}
 use Rattle.conversions.specs.Positions.{after}
 use Rattle.conversions.specs.Dumping.{drawn, dump_turn}
-use Rattle.conversions.specs.Blocks.{dump_stretch}
 use Rattle.conversions.proofs.Positions.{Formed, Facts, facts_of, test_of}
 use Rattle.conversions.proofs.DumpNear.{dump_by_lines}
 
@@ -93,12 +87,3 @@ dump_program_lem =
       few = λ p rest f. few_drawn p (facts_of p f) (read_trace_of p.n rest 0);
       stays = λ p rest f. stays_drawn p (facts_of p f) (read_trace_of p.n rest 0);
     }
-
-module _ {p₀ : Position} {block out₀ : List ℕ} {p : Position} {out : List ℕ} {w : ℕ} where
-  pub block_stopped : Ended dump_turn p₀ block out₀ done p out w
-      → (record { written = w; flow = Stopped; kept = p } ≡ progress_of (dump_stretch p₀ block)) × (out ≡ over (bytes_of (dump_stretch p₀ block)) out₀)
-  block_stopped e = (rw (e.is, e.size), rw e.is e.puts)
-
-  pub block_used : Ended dump_turn p₀ block out₀ on p out w
-      → (record { written = w; flow = GoesOn; kept = p } ≡ progress_of (dump_stretch p₀ block)) × (out ≡ over (bytes_of (dump_stretch p₀ block)) out₀)
-  block_used e = (rw (e.is, e.size), rw e.is e.puts)

@@ -4,7 +4,6 @@
 --   undump_counts      == a step that is taken is counted
 --   undump_program_lem == no step writes more bytes than a trace line, and the position stays well formed
 --   step_on, step_refused, step_none == the three ends of a step
---   block_stopped, block_used == the two ends of a block
 use Rattle.std.specs.Prelude.{Err, None, Ok, Some}
 use Prim.Native.Nat.{ℕ, ◌≤◌}
 use mathlib.Core.Path.{◌≡◌, refl, ap, ◌∙◌}
@@ -17,20 +16,18 @@ use Rattle.rules.specs.declared.Cycle.{Cycle}
 use Rattle.formats.specs.Results.{TraceRead}
 use Rattle.formats.specs.Lines.{trace_line}
 use Rattle.formats.specs.Report.{refused_line}
-use Rattle.streams.specs.declared.Flow.TheVariants.{GoesOn, Stopped}
-use Rattle.streams.specs.Streams.{goes, on, done}
-use Rattle.streams.specs.Blocks.{progress_of, Stepping, Cutting, bytes_of}
-use Rattle.streams.specs.Turns.{over, bytes_in, state_after, taken_by, Put, Lined}
+use Rattle.streams.specs.Streams.{goes}
+use Rattle.streams.specs.Blocks.{Stepping, Cutting}
+use Rattle.streams.specs.Turns.{bytes_in, state_after, taken_by, Put, Lined}
 use Rattle.streams.proofs.Sizes.{refused_size, went, ended}
 use Rattle.streams.proofs.Counted.{Counting}
 use Rattle.streams.specs.Going.{Program}
-use Rattle.streams.proofs.Stretches.{Ended}
 use Rattle.waves.specs.Reading.{read_step_of}
 use Rattle.waves.specs.Files.{lines_in}
 use Rattle.conversions.specs.declared.Position.{Position}
 use Rattle.conversions.specs.Positions.{after}
 use Rattle.conversions.specs.Undumping.{recalled, undump_turn}
-use Rattle.conversions.specs.Blocks.{BetweenSteps, undump_stretch}
+use Rattle.conversions.specs.Blocks.{BetweenSteps}
 use Rattle.conversions.proofs.UndumpFacts.{found}
 use Rattle.conversions.proofs.Positions.{Formed, Facts, facts_of, test_of}
 use Rattle.conversions.proofs.UndumpSteps.{goes_by, undump_last, undump_next, undump_near, undump_rest}
@@ -87,12 +84,3 @@ module _ (p : Position) (rest : List ℕ) where
 
   pub step_none : (buffer : List ℕ) → read_step_of p.n p.count p.before rest 0 ≡ Ok None → Lined p (undump_turn p rest) buffer 0 false p buffer
   step_none buffer e = ended p (undump_turn p rest) [] buffer 0 buffer (record { size = refl; puts = refl }) (turn_is (Ok None) e)
-
-module _ {p₀ : Position} {block out₀ : List ℕ} {p : Position} {out : List ℕ} {w : ℕ} where
-  pub block_stopped : Ended undump_turn p₀ block out₀ done p out w
-      → (record { written = w; flow = Stopped; kept = p } ≡ progress_of (undump_stretch p₀ block)) × (out ≡ over (bytes_of (undump_stretch p₀ block)) out₀)
-  block_stopped e = (rw (e.is, e.size), rw e.is e.puts)
-
-  pub block_used : Ended undump_turn p₀ block out₀ on p out w
-      → (record { written = w; flow = GoesOn; kept = p } ≡ progress_of (undump_stretch p₀ block)) × (out ≡ over (bytes_of (undump_stretch p₀ block)) out₀)
-  block_used e = (rw (e.is, e.size), rw e.is e.puts)

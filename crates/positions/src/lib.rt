@@ -5,31 +5,16 @@ ghost use Rattle.std.specs.Prelude.{◌≡◌};
 ghost use Rattle.conversions.specs.Positions.{start_at, position_formed};
 
 use conversions::Position;
-use rules::{Cycle, Inputs, Outputs};
+use rules::Cycle;
 
 // A conversion at its start, with the line that comes after the header.
 pub fn start(n: u32, line: u32) -> Position
     ensures { result ≡ start_at n line }
 {
-    let inputs = Inputs {
-        hbusreq: 0,
-        hlock: 0,
-        hready: 0,
-        htrans: 0,
-        hburst: 0,
-    };
-    let outputs = Outputs {
-        hgrant: 0,
-        hmaster: 0,
-        hmastlock: 0,
-        decide: 0,
-        granted: 0,
-        busreq: 0,
-    };
     Position {
         n,
         count: 0,
-        before: Cycle { inputs, outputs },
+        before: Cycle::default(),
         line,
     }
 }

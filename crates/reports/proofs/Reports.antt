@@ -6,7 +6,7 @@
 --   First, next     == the next charge
 --   one_more        == one charge more
 --   all_reported    == where no charge is left, all is written
-use Prim.Native.Nat.{ℕ, zero, suc, ◌+◌, ◌-◌, ◌*◌, ◌/◌, ◌^◌, ◌≤◌, ◌<◌}
+use Prim.Native.Nat.{ℕ, suc, ◌+◌, ◌-◌, ◌*◌, ◌/◌, ◌^◌, ◌≤◌, ◌<◌}
 use mathlib.Core.Path.{◌≡◌, refl, sym, ap, ◌∙◌}
 use mathlib.Core.List.{List, [], ◌∷◌, ◌++◌, append-nil, append_assoc}
 use native.Mathlib.Omega.{arith}
@@ -15,7 +15,7 @@ use lib.ListN.{length, get_or, take, drop, length-append, length-drop}
 use lib.Seq.{get_or-drop, drop-drop}
 use Rattle.rules.proofs.Choice.{order}
 use Rattle.rulebook.specs.declared.Rule.{Rule}
-use Rattle.rulebook.specs.declared.Rule.TheVariants.{A1, G12}
+use Rattle.rulebook.specs.declared.Rule.TheVariants.{A1}
 use Rattle.rulebook.specs.Rules.{rules}
 use Rattle.rulebook.specs.Named.{named_by}
 use Rattle.rulebook.proofs.Named.{First, named_first, named_none}
@@ -124,17 +124,3 @@ module _ {t m₀ : ℕ} {out₀ : List ℕ} where
                 lines = g.lines ∙ rw (next_is, append_assoc);
                 count = g.count ∙ rw next_is (omega arith);
               }
-
--- the last of the rules: none of the arms before it fits
-abbrev NotBelow : ℕ → ℕ → Type 0
-NotBelow zero i = Unit {0}
-NotBelow (suc k) i = NotBelow k i × (i ≡ k → ⊥)
-
-not_below : (k i : ℕ) → NotBelow k i → k ≤ i
-not_below zero i n = omega arith
-not_below (suc k) i n =
-    order (suc k) i (λ h. h)
-    (λ h. absurd (n.1 (omega (arith, not_below k i n.0))))
-
-pub last_rule : (i : ℕ) → i < 21 → NotBelow 20 i → G12 ≡ get_or rules i A1
-last_rule i h n = let e : i ≡ 20 = omega (arith, not_below 20 i n) in rw e

@@ -20,10 +20,7 @@ use rules::Refusal;
 fn size(w: Result<usize, Refusal>) -> usize
     ensures { result ≡ size_of w }
 {
-    match w {
-        Ok(k) => k,
-        Err(_) => 0,
-    }
+    w.unwrap_or(0)
 }
 
 // The line of a refusal.
@@ -63,33 +60,35 @@ fn put_breach(cycle: u32, rule: Rule, out: &mut [u8]) -> usize
 }
 
 // The rules in the order of the report.
+const RULES: [Rule; 21] = [
+    Rule::A1,
+    Rule::A2,
+    Rule::A3,
+    Rule::A4,
+    Rule::A5,
+    Rule::A6,
+    Rule::A7,
+    Rule::A8,
+    Rule::A9,
+    Rule::G1,
+    Rule::G2,
+    Rule::G3,
+    Rule::G4,
+    Rule::G5,
+    Rule::G6,
+    Rule::G7,
+    Rule::G8,
+    Rule::G9,
+    Rule::G10,
+    Rule::G11,
+    Rule::G12,
+];
+
 fn rule_at(i: usize) -> Rule
     requires { i < 21 }
     ensures { result ≡ get_or rules i A1 }
 {
-    match i {
-        0 => Rule::A1,
-        1 => Rule::A2,
-        2 => Rule::A3,
-        3 => Rule::A4,
-        4 => Rule::A5,
-        5 => Rule::A6,
-        6 => Rule::A7,
-        7 => Rule::A8,
-        8 => Rule::A9,
-        9 => Rule::G1,
-        10 => Rule::G2,
-        11 => Rule::G3,
-        12 => Rule::G4,
-        13 => Rule::G5,
-        14 => Rule::G6,
-        15 => Rule::G7,
-        16 => Rule::G8,
-        17 => Rule::G9,
-        18 => Rule::G10,
-        19 => Rule::G11,
-        20.. => Rule::G12,
-    }
+    RULES[i]
 }
 
 // How many bytes the breach lines of a cycle have, and how many breaches there are.

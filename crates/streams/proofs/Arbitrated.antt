@@ -4,7 +4,6 @@
 --   stepped_on, stepped_out == the two ends of a step
 --   read_line, read_none, read_refused == the three ends of a line
 --   arbiter_program_lem == it goes by lines, none of which writes more bytes than a trace line, and the state stays well formed
---   block_stopped, block_used == the two ends of a block
 use Rattle.std.specs.Prelude.{Err, None, Ok, Some}
 use Prim.Native.Nat.{ℕ, ◌+◌, ◌≤◌}
 use mathlib.Core.Path.{◌≡◌, refl, sym, ap, ◌∙◌}
@@ -28,16 +27,12 @@ use Rattle.rules.proofs.Shown.{valid_shown}
 use Rattle.formats.specs.Results.{StimulusRead}
 use Rattle.formats.specs.Lines.{for_masters, trace_line, read_stimulus_of}
 use Rattle.formats.specs.Report.{refused_line}
-use Rattle.streams.specs.declared.Flow.TheVariants.{GoesOn, Stopped}
-use Rattle.streams.specs.Streams.{on, done}
 use Rattle.streams.specs.Arbiter.{stepped, stimulated, arbiter_turn}
-use Rattle.streams.specs.Blocks.{progress_of, arbiter_stretch, bytes_of}
-use Rattle.streams.specs.Turns.{over, bytes_in, state_after, Put, Lined}
+use Rattle.streams.specs.Turns.{bytes_in, state_after, Put, Lined}
 use Rattle.streams.proofs.Lines.{stepping}
 use Rattle.streams.proofs.Near.{arbiter_by_lines}
 use Rattle.streams.proofs.Sizes.{refused_size, went, ended}
 use Rattle.streams.specs.Going.{Program}
-use Rattle.streams.proofs.Stretches.{Ended}
 
 pub shown_good : (s : State) (x : Inputs) (a : Answer) (t : State) (o : Outputs) → a ≡ step_of s x → a ≡ Ok (t, o)
     → for_masters s.n (cycle_check s.n (record { inputs = x; outputs = o })) ≡ Ok tt
@@ -111,12 +106,3 @@ stays s rest f = stays_read s f (read_stimulus_of s.n rest 0)
 
 pub arbiter_program_lem : Program arbiter_turn 16 31 WellFormed
 arbiter_program_lem = record { longest = 16; lines = stepping arbiter_by_lines; few = few_bytes; stays = stays }
-
-module _ {s₀ : State} {block out₀ : List ℕ} {s : State} {out : List ℕ} {w : ℕ} where
-  pub block_stopped : Ended arbiter_turn s₀ block out₀ done s out w
-      → (record { written = w; flow = Stopped; kept = s } ≡ progress_of (arbiter_stretch s₀ block)) × (out ≡ over (bytes_of (arbiter_stretch s₀ block)) out₀)
-  block_stopped e = (rw (e.is, e.size), rw e.is e.puts)
-
-  pub block_used : Ended arbiter_turn s₀ block out₀ on s out w
-      → (record { written = w; flow = GoesOn; kept = s } ≡ progress_of (arbiter_stretch s₀ block)) × (out ≡ over (bytes_of (arbiter_stretch s₀ block)) out₀)
-  block_used e = (rw (e.is, e.size), rw e.is e.puts)

@@ -3,7 +3,6 @@
 --   taken_line, refused_line_lem == the two ends of a cycle that was read
 --   read_line, read_none, read_refused == the three ends of a line
 --   judge_program_lem   == it goes by lines, none of which writes more bytes than a line for each rule, and what is kept stays well formed
---   block_stopped, block_used == the two ends of a block
 use Rattle.std.specs.Prelude.{Err, None, Ok, Some}
 use Prim.Native.Nat.{ℕ, ◌+◌, ◌*◌, ◌^◌, ◌≤◌, ◌<◌}
 use mathlib.Core.Path.{◌≡◌, refl, sym, ap, ◌∙◌}
@@ -25,17 +24,14 @@ use Rattle.formats.specs.Results.{TraceRead}
 use Rattle.formats.specs.Lines.{read_trace_of}
 use Rattle.formats.specs.Report.{end_line, refused_line}
 use Rattle.streams.specs.declared.Tally.{Tally}
-use Rattle.streams.specs.declared.Flow.TheVariants.{GoesOn, Stopped}
-use Rattle.streams.specs.Streams.{Turn, on, done}
+use Rattle.streams.specs.Streams.{Turn}
 use Rattle.streams.specs.Judging.{breach_lines, judged_to, traced, judge_turn}
-use Rattle.streams.specs.Blocks.{progress_of, judge_stretch, bytes_of}
 use Rattle.streams.proofs.Lines.{stepping}
 use Rattle.streams.proofs.Near.{judge_by_lines}
-use Rattle.streams.specs.Turns.{over, bytes_in, state_after, Put, Lined}
+use Rattle.streams.specs.Turns.{bytes_in, state_after, Put, Lined}
 use Rattle.streams.specs.Breaches.{Reported, Formed}
 use Rattle.streams.proofs.Sizes.{refused_size, end_size, breach_size, went, ended}
 use Rattle.streams.specs.Going.{Program}
-use Rattle.streams.proofs.Stretches.{Ended}
 
 few_flagged : (l : List Bool) (rs : List Rule) → length (flagged l rs) ≤ length rs
 unfolding flagged
@@ -136,12 +132,3 @@ judge_program_lem =
       few = λ b rest f. few_read b f (read_trace_of b.judge.n rest 0);
       stays = λ b rest f. stays_read b f (read_trace_of b.judge.n rest 0);
     }
-
-module _ {b₀ : Tally} {block out₀ : List ℕ} {b : Tally} {out : List ℕ} {w : ℕ} where
-  pub block_stopped : Ended judge_turn b₀ block out₀ done b out w
-      → (record { written = w; flow = Stopped; kept = b } ≡ progress_of (judge_stretch b₀ block)) × (out ≡ over (bytes_of (judge_stretch b₀ block)) out₀)
-  block_stopped e = (rw (e.is, e.size), rw e.is e.puts)
-
-  pub block_used : Ended judge_turn b₀ block out₀ on b out w
-      → (record { written = w; flow = GoesOn; kept = b } ≡ progress_of (judge_stretch b₀ block)) × (out ≡ over (bytes_of (judge_stretch b₀ block)) out₀)
-  block_used e = (rw (e.is, e.size), rw e.is e.puts)
