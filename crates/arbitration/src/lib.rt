@@ -10,6 +10,7 @@ ghost use Rattle.rules.specs.Step.{step_of};
 use rules::{Inputs, Outputs, Phase, Refusal, State};
 
 // The state after a reset with n masters, or refusal 1.
+#[tactic(auto, unfolding(rules::specs::State::reset_of))]
 pub fn reset(n: u32) -> Result<State, Refusal>
     ensures { result ≡ reset_of n }
 {
@@ -28,6 +29,7 @@ pub fn reset(n: u32) -> Result<State, Refusal>
     }
 }
 
+#[tactic(auto, unfolding(rules::specs::State::phase_ok))]
 fn phase_ok(p: Phase, granted: bool, lock: bool) -> bool
     ensures { result ≡ phase_ok p granted lock }
 {
@@ -40,6 +42,7 @@ fn phase_ok(p: Phase, granted: bool, lock: bool) -> bool
 }
 
 // Whether a state is well formed.
+#[tactic(auto, unfolding(rules::specs::State::well_formed))]
 pub fn well_formed(s: State) -> bool
     ensures { result ≡ well_formed s }
 {

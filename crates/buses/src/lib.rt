@@ -41,6 +41,7 @@ fn phase_number(p: Phase) -> u32
     }
 }
 
+#[tactic(auto, unfolding(crate::specs::Buses::phase_from))]
 fn phase(k: u32) -> Phase
     ensures { result ≡ phase_from k }
 {
@@ -85,6 +86,7 @@ pub fn state(n: u32, b: Bus) -> State
 }
 
 // The bit of master i.
+#[tactic(auto, unfolding(rules::specs::Masks::high))]
 fn bit(m: u32, i: u32) -> u32
     requires { i < 32 }
     ensures { Stands result (high m i) }

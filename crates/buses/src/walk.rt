@@ -5,6 +5,7 @@ ghost use Rattle.rules.specs.Winner.{next as next_master, winner as winner_of};
 use crate::bit;
 
 // The master after i, with 0 after n - 1.
+#[tactic(auto, unfolding(rules::specs::Winner::next))]
 fn next(n: u32, i: u32) -> u32
     requires { i < 16 }
     ensures { result ≡ next_master n i }

@@ -12,18 +12,21 @@ pub fn no_input(x: Inputs) -> bool
     x == Inputs::default()
 }
 
+#[tactic(auto, unfolding(rulebook::specs::Columns::owners_request))]
 pub fn owners_request(c: Cycle) -> bool
     ensures { result ≡ columns.owners_request c }
 {
     signals::is_high(c.inputs.hbusreq, c.outputs.hmaster)
 }
 
+#[tactic(auto, unfolding(rulebook::specs::Columns::handover))]
 pub fn handover(c: Cycle) -> bool
     ensures { result ≡ columns.handover c }
 {
     (c.outputs.granted == 1) & (c.inputs.hready == 1)
 }
 
+#[tactic(auto, unfolding(rulebook::specs::Traces::opens))]
 pub fn opens(c: Cycle) -> bool
     ensures { result ≡ traces.opens c }
 {
@@ -36,6 +39,7 @@ fn unspecified(b: Burst) -> bool
     matches!(b, Burst::Unspecified)
 }
 
+#[tactic(auto, unfolding(rulebook::specs::Rules::locked_incr))]
 pub fn locked_incr(c: Cycle) -> bool
     ensures { result ≡ book.locked_incr c }
 {

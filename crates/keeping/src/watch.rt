@@ -22,6 +22,7 @@ fn burst_watch(b: Burst) -> Watch
     }
 }
 
+#[tactic(auto, unfolding(rulebook::specs::Rules::is_watched, rulebook::specs::Charges::opening_watch))]
 fn opening_watch(c: Cycle) -> Watch
     ensures { result ≡ opening_watch c }
 {
@@ -50,6 +51,7 @@ fn later_watch(w: Watch, c: Cycle) -> Watch
     }
 }
 
+#[tactic(auto, unfolding(rulebook::specs::Charges::opened_after))]
 pub fn opened_after(j: Judge, c: Cycle) -> bool
     ensures { result ≡ opened_after j c }
 {
@@ -58,6 +60,7 @@ pub fn opened_after(j: Judge, c: Cycle) -> bool
     signals::pick(over, false, j.opened | opens)
 }
 
+#[tactic(auto, unfolding(rulebook::specs::Charges::watch_after))]
 pub fn watch_after(j: Judge, c: Cycle) -> Watch
     ensures { result ≡ watch_after j c }
 {

@@ -89,6 +89,7 @@ fn first(value: bool, unbuilt: bool, absent: bool, owner: bool) -> Result<(), Re
     pick(value, Err(Refusal::Value), at5)
 }
 
+#[tactic(auto, unfolding(rules::specs::Valid::inputs_too_large))]
 fn inputs_too_large(x: Inputs) -> bool
     ensures { result ≡ inputs_too_large x }
 {
@@ -97,12 +98,14 @@ fn inputs_too_large(x: Inputs) -> bool
     (65535 < x.hbusreq) | (65535 < x.hlock) | (1 < x.hready) | (3 < x.htrans) | none
 }
 
+#[tactic(auto, unfolding(rules::specs::Valid::outputs_too_large))]
 fn outputs_too_large(o: Outputs) -> bool
     ensures { result ≡ outputs_too_large o }
 {
     (65535 < o.hgrant) | (1 < o.hmastlock) | (1 < o.decide) | (1 < o.granted) | (1 < o.busreq)
 }
 
+#[tactic(auto, unfolding(rules::specs::Valid::inputs_not_built))]
 fn inputs_not_built(x: Inputs) -> bool
     ensures { result ≡ inputs_not_built x }
 {
@@ -111,6 +114,7 @@ fn inputs_not_built(x: Inputs) -> bool
     (x.htrans == 1) | unbuilt
 }
 
+#[tactic(auto, unfolding(rules::specs::Valid::inputs_absent))]
 fn inputs_absent(n: u32, x: Inputs) -> bool
     ensures { result ≡ inputs_absent n x }
 {
@@ -120,6 +124,7 @@ fn inputs_absent(n: u32, x: Inputs) -> bool
 }
 
 // The tests 4, 5 and 6 of a stimulus.
+#[tactic(auto, unfolding(rules::specs::Valid::inputs_check))]
 pub fn check_inputs(n: u32, x: Inputs) -> Result<(), Refusal>
     ensures { result ≡ inputs_check n x }
 {
@@ -130,6 +135,7 @@ pub fn check_inputs(n: u32, x: Inputs) -> Result<(), Refusal>
 }
 
 // The tests 4, 5, 6 and 7 of a recorded cycle.
+#[tactic(auto, unfolding(rules::specs::Valid::cycle_check))]
 pub fn check_cycle(n: u32, c: Cycle) -> Result<(), Refusal>
     ensures { result ≡ cycle_check n c }
 {
