@@ -199,6 +199,7 @@ fn run<P: Program, R: Read, W: Write>(
     requires held { Held P.rest P.least P.most (length block.old) (length out.old) }
     ensures { Ran P.breaches P.turn P.parts start result }
 {
+    // Stays: the loop counts nothing, and ends where a read says so.
     let mut kept = start;
     let mut size = 0;
     loop {

@@ -103,12 +103,13 @@ pub fn put_breaches(cycle: u32, charged: u32, out: &mut [u8]) -> Breaches
     requires { (charged < 2 ^ 21) × (315 ≤ length out.old) }
     ensures { Reported cycle (named_by charged rules) out.old result.written result.count out.new }
 {
+    // Stays: the loop goes from one digit that is 1 to the next, and not over an index.
     let mut m = charged;
     let mut i: usize = 0;
     let mut w: usize = 0;
     let mut count: u32 = 0;
     while m != 0 {
-        let zeros = u32::trailing_zeros(m);
+        let zeros = m.trailing_zeros();
         i += zeros as usize;
         w += put_breach(cycle, rule_at(i), &mut out[w..]);
         m = (m >> zeros) / 2;

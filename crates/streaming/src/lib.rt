@@ -17,6 +17,7 @@ use rules::{Refusal, State};
 use streams::{Flow, Progress, Tally};
 
 // What a stimulus header comes to: the bytes of the trace's header and the state to go on from, those of a refusal line, or 9.
+// Stays: three answers and not two; a state comes with the first alone, and `arbiter_head_of` says which by these names.
 #[derive(Clone, Copy)]
 pub enum ArbiterHead {
     Begun(usize, State),

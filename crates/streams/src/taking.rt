@@ -60,6 +60,7 @@ pub fn take_block<T: Taking>(
     requires room { room_for T.least T.most block.now ≤ length out.old }
     ensures { (result ≡ progress_of (whole T.turn (T.state t.now start) block.now)) × (out.new ≡ over (bytes_of (whole T.turn (T.state t.now start) block.now)) out.old) }
 {
+    // Stays: how many bytes a line or step has is known when it is taken, so no iterator over the block can give it.
     let mut kept = start;
     let mut at: usize = 0;
     let mut written: usize = 0;
