@@ -152,6 +152,7 @@ pub fn ends_as(breaches: u32) -> Ending
     }
 }
 
+// Stays: a value for each variant; no derive gives them.
 fn letter(e: Ending) -> u8
     ensures { result ≡ letter_of e }
 {

@@ -6,6 +6,7 @@ ghost use Rattle.docketing.specs.Fits.{InputsFit, OutputsFit, JudgeFits, Low};
 use rulebook::{Judge, Watch};
 use rules::{Inputs, Outputs};
 
+// Stays: here and below, a value for each variant; no derive gives them.
 fn watch_byte(w: Watch) -> u8
     ensures { result ≡ watch_byte w }
 {

@@ -104,6 +104,7 @@ pub fn write_header(w: Word, n: u32, buf: &mut [u8]) -> Result<usize, Refusal>
 }
 
 // A rule's letter and its index.
+// Stays: a value for each variant; no derive gives them.
 fn name_of(r: Rule) -> (u8, u32)
     ensures { (result.0 ≡ letter_of r) × (result.1 ≡ index_of r) }
 {

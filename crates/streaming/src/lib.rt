@@ -50,6 +50,7 @@ pub fn arbiter_head(head: &[u8], out: &mut [u8]) -> ArbiterHead
 }
 
 // One block of a stimulus: 9, 10, or its trace lines as far as the arbiter goes.
+// Stays: beside the other block calls, here, in drawing and in recalling; room, state and its test differ in each, and two tests are no longer than a call with them all.
 pub fn arbiter_block(s: State, block: &[u8], out: &mut [u8]) -> Progress<State>
     ensures { (result ≡ arbiter_block_of s block.now (length out.old)) × (out.new ≡ arbiter_block_left s block.now out.old) }
 {
