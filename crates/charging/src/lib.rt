@@ -16,6 +16,7 @@ use rules::Cycle;
 
 // For each rule, in the order of the report, whether it is charged. At the first cycle there is no other to compare with it.
 // Stays: two lists, since one that asks at each rule whether the cycle is the first takes 522 instructions a line for 467, and 485 are allowed.
+// Stays: `Ready` holds of a judge and a cycle together, which come in apart and by value.
 fn charged(j: Judge, c: Cycle, reached: bool) -> [bool; 21]
     requires { Ready j c × (reached ≡ (after_decision j && some_master (reaches j c))) }
     ensures { result ≡ map (charges j c) rules }

@@ -116,6 +116,7 @@ fn take<P: Program, W: Write>(
 }
 
 // The first n bytes of the buffer: their whole lines or steps are taken, and the rest is kept.
+// Stays: the two buffers and what a program asks of them are facts of each instance; a struct for them would hold two borrowed buffers through every call.
 fn go_on<P: Program, W: Write>(
     output: &mut Output<W>,
     kept: P::Kept,

@@ -17,6 +17,7 @@ use rules::{Cycle, Refusal};
 use streams::{Progress, Taking};
 
 // A cycle in time: where the conversion stands after it, and how many bytes its step has.
+// Stays: whoever calls a block builds a `Position` freely and it is tested there, so its fact is a clause of each function behind the test.
 fn go(p: Position, c: Cycle, out: &mut [u8]) -> (Position, usize)
     requires { (position_formed p ≡ true) × (p.count < most_cycles) × (104 ≤ length out.old) }
     ensures { Put (dump_step p.before p.count c) out.old result.1 out.new × (result.0 ≡ after p c 1) }

@@ -29,6 +29,7 @@ fn put_byte(b: u32, buf: &mut [u8], at: usize)
 }
 
 // Writes the low bits of a number, the highest first, one by one.
+// Stays: a width is a number with a bound in each function, as the table of variables has it; a const parameter would make five of each.
 fn put_few(width: usize, v: u32, buf: &mut [u8], at: usize)
     requires { (width ≤ 16) × (at + width ≤ length buf.old) }
     ensures { buf.new ≡ sets buf.old at (bits width v) }

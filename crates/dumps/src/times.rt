@@ -23,6 +23,7 @@ fn digits(a: u64, b: u64) -> u64
 }
 
 // The line of a time of six digits as one number: with the bytes round them they are eight.
+// Stays: a time is a number below a million in each function; a type for it would be made and taken apart at every call.
 pub fn six_digits(t: u64) -> u64
     requires { (100000 ≤ t) × (t < most_cycles) }
     ensures { low_first 8 result ≡ time_line t }

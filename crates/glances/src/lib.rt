@@ -17,6 +17,7 @@ pub use table::DigitTable;
 
 impl DigitTable {
     // The columns of the stimulus line that s begins with, if it is good.
+    // Stays: n is a number that the caller tested once; a type for it would be made at every line, or kept in the state, which comes and goes as it is.
     pub fn see_stimulus(&self, n: u32, s: &[u8]) -> Option<Inputs>
         requires { (masters_ok n ≡ true) × (16 ≤ length s.now) }
         ensures { SeesStimulus n s.now result }

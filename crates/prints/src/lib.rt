@@ -13,6 +13,7 @@ ghost use Rattle.prints.specs.Prints.{digits_low, letters_of, inputs_bytes, gran
 use rules::{Cycle, Inputs, Outputs};
 
 // Two masks as one number, with a byte of room after each of their bytes.
+// Stays: a mask has sixteen bits in a number of 64, which is what the sums need; a u16 would be widened in each line.
 fn bytes_apart(a: u64, b: u64) -> u64
     requires { (a < 65536) × (b < 65536) }
     ensures { result ≡ number_low 8 (b % 256 ∷ 0 ∷ b / 256 ∷ 0 ∷ a % 256 ∷ 0 ∷ a / 256 ∷ 0 ∷ []) 0 }

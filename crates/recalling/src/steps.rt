@@ -24,6 +24,7 @@ fn lines_in(s: &[u8]) -> u32
 }
 
 // A step that was read: its trace line is written. Where the program stands then, and the bytes of both.
+// Stays: whoever calls a block builds a `Position` freely and it is tested there, so its fact is a clause of each function behind the test.
 fn go(
     p: Position,
     rest: &[u8],

@@ -20,6 +20,7 @@ fn line_size(s: &[u8]) -> usize
 }
 
 // The bytes of a line of a variable of this width.
+// Stays: a width is a number with a bound in each function, as the table of variables has it; a const parameter would make five of each.
 fn size_of(width: usize) -> usize
     requires { width ≤ 16 }
     ensures { (result ≡ cond (eqb width 1) (width + 2) (width + 4)) × (3 ≤ result) × (result ≤ 20) }

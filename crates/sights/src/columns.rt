@@ -45,6 +45,7 @@ fn mask(s: &[u8]) -> Option<u32>
 }
 
 // A few characters, one by one.
+// Stays: a few characters, sixteen at most, in whatever slice; a const parameter stops at the public `vector`.
 fn few(s: &[u8]) -> Option<u32>
     requires { length s.now ≤ 16 }
     ensures { IfSome result (λ u. s.now ≡ bits (length s.now) u) }

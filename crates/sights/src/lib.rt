@@ -55,6 +55,7 @@ fn see_outputs(o: Outputs, at: &mut Place) -> Outputs
 }
 
 // Whether a cycle passes the tests 4, 5, 6 and 7.
+// Stays: n and t are numbers that the caller tested once; a type for each would be made and taken apart at every step.
 fn passes(n: u32, c: Cycle) -> bool
     requires { masters_ok n ≡ true }
     ensures { result ≡ true → cycle_check n c ≡ Ok tt }

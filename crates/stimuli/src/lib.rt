@@ -19,6 +19,7 @@ use rules::{Cycle, Inputs, Refusal, State};
 use streams::{Progress, Taking};
 
 // A cycle that the arbiter takes: the trace line of its stimulus line is written.
+// Stays: a state comes in by value from anywhere and is tested once, so that it is well formed is a clause of each function behind the test.
 fn go(n: u32, b: Bus, x: Inputs, rest: &[u8], out: &mut [u8]) -> Bus
     requires { WellFormed (state_from n b) × Fit b × (b.count < most_cycles) × (read_stimulus_of n rest.now 0 ≡ Ok (Some (x, 16))) × (16 ≤ length rest.now) × (31 ≤ length out.old) }
     ensures { Lined (state_from n b) (stepped (step_of (state_from n b) x) x (state_from n b) 16) out.old 31 true (state_from n result) out.new × Fit result }

@@ -17,6 +17,7 @@ use rules::{Cycle, Refusal};
 use streams::{Progress, Taking, Tally};
 
 // A cycle that the judge takes: what is kept after it, and how many bytes its breach lines have.
+// Stays: what the judging program keeps comes in by value and is tested once, so its fact is a clause of each function behind the test.
 fn go(b: Tally, c: Cycle, out: &mut [u8]) -> (Tally, usize)
     requires { Formed b × (b.judge.count < most_cycles) × (cycle_check b.judge.n c ≡ Ok tt) × (315 ≤ length out.old) }
     ensures { Lined b (judged_to (judge_of b.judge c).verdict (judge_of b.judge c) b 31) out.old result.1 true result.0 out.new }
