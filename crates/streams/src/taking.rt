@@ -15,6 +15,7 @@ use crate::{Flow, Progress};
 pub trait Taking {
     // What is kept from one line to the next, and from one block to the next.
     type Kept: Copy;
+
     type State: Copy;
 
     ghost state: { Self → Self.Kept → Self.State };
