@@ -18,7 +18,7 @@ fn beats(b: Burst) -> u32
 }
 
 // Some lock is not excused. The masks as a whole say what each master would.
-// Stays: `Fits` is asked of cycles that were tested, in three rules of sixteen; a type for it would be made of every cycle.
+// Stays: `Fits` is asked of cycles that were tested, in four rules of sixteen; a type for it would be made of every cycle.
 pub fn a3(p: Cycle, t: Cycle) -> bool
     requires { Fits t }
     ensures { result ≡ book.a3 p t }

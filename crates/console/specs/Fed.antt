@@ -1,6 +1,6 @@
 -- What a read came to: so many bytes stand in the buffer and more may come, or no more come, or it failed.
 --
---   size_of f        == the bytes that stand in the buffer
+--   size_of f        == the bytes that stand in the buffer where the read brought some, else 0
 --   Fill f k old new == a read behind the first k bytes of a buffer, which it leaves as they are
 use Rattle.std.specs.Prelude.{ℕ, ◌≤◌, ◌<◌, ◌≡◌, List, length, take, Option, Result, Err, None, Ok, Some}
 use Rattle.console.specs.declared.Ending.{Ending}

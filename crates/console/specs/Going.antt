@@ -4,8 +4,8 @@
 --   Lines w a b     == what was read is cut between a and b: a is whole lines of w bytes, and b is less than one
 --   Onward turn Cut s old t new == a program went on: with the bytes old kept and in the state s before, with new kept and in the state t after
 --   Onwards ..      == it went on so, any number of times
---   Held rest w most block out == the same, and more in the first than the bytes that are kept at most
 --   Lent w most block out == buffers of these sizes: one for a line of w bytes and more, and one with room for what its lines come to, most bytes each
+--   Held rest w most block out == the same, and more in the first than the bytes that are kept at most
 use Rattle.std.specs.Prelude.{ℕ, ◌+◌, ◌*◌, ◌/◌, ◌≤◌, ◌<◌, ◌≡◌, Bool, true, false, List, ◌++◌, length}
 use Rattle.streams.specs.declared.Flow.{Flow}
 use Rattle.streams.specs.declared.Flow.TheVariants.{GoesOn, Stopped, Short, Unformed}

@@ -24,7 +24,7 @@ fn size(w: Result<usize, Refusal>) -> usize
 }
 
 // The line of a refusal.
-// Stays: room for 31 bytes is a clause of each writer, here and above; an array in its place would be cut out of the buffer at every call.
+// Stays: room for 31 bytes is a clause of each writer, here and below; an array in its place would be cut out of the buffer at every call.
 pub fn put_refused(line: u32, r: Refusal, out: &mut [u8]) -> usize
     requires { 31 ≤ length out.old }
     ensures { Put (refused_line line r) out.old result out.new }
