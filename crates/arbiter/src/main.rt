@@ -13,7 +13,7 @@ ghost use Rattle.arbiter.specs.Breaches.{no_breach};
 ghost use Rattle.arbiter.specs.Laws.{formed, count, laws};
 
 use console::{Ending, Output, Program};
-use rules::{Refusal, State};
+use rules::State;
 use std::io::{Read, Write};
 use streaming::ArbiterHead;
 use streams::Progress;
@@ -63,13 +63,9 @@ impl Program for Arbiter {
         console::whole_lines(16, block)
     }
 
-    // It names no breach, and writes nothing after the end of its input.
+    // It names no breach.
     fn named(_s: State) -> u32 {
         0
-    }
-
-    fn end(_s: State, _out: &mut [u8]) -> Result<usize, Refusal> {
-        Ok(0)
     }
 }
 
@@ -88,6 +84,7 @@ fn start<R: Read, W: Write>(
 }
 
 // 2,048 lines at a time, and room for a trace line for each and for one line more.
+// Stays: the mains differ in sizes alone, but a size of an array cannot come from a constant of the trait.
 fn main(rt: HostRuntime) {
     let mut input = rt.stdin();
     let mut output = Output::new(rt.stdout());

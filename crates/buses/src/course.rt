@@ -8,6 +8,7 @@ use crate::turn::Now;
 use rules::Burst;
 
 // The phase after the cycle, and what keeps the bus busy: 0 where the owner's burst lets a decision fall.
+// Stays: `busy` is 0 for a bus that is free, since it is joined with the lock line by `|` into one test.
 #[derive(Clone, Copy)]
 pub struct Course {
     pub busy: u32,

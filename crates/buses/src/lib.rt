@@ -86,6 +86,7 @@ pub fn state(n: u32, b: Bus) -> State
 }
 
 // The bit of master i.
+// Stays: bit and mask ask that the master is below 32; is_high and single_bit of signals test it, which the cycle need not.
 #[tactic(auto, unfolding(rules::specs::Masks::high))]
 fn bit(m: u32, i: u32) -> u32
     requires { i < 32 }

@@ -8,6 +8,7 @@ ghost use Rattle.charging.specs.Ready.{Fits};
 use rulebook::Watch;
 use rules::{Burst, Cycle};
 
+// Stays: 0 where the burst is not fixed, as `beats_of` has it.
 fn beats(b: Burst) -> u32
     ensures { result ≡ columns.beats_of b }
 {

@@ -67,8 +67,10 @@ pub trait Program {
     fn named(kept: Self::Kept) -> u32
         ensures { result ≡ breaches kept };
 
-    // What it writes after the end of its input.
-    fn end(kept: Self::Kept, out: &mut [u8]) -> Result<usize, Refusal>;
+    // What it writes after the end of its input: nothing, unless it says otherwise.
+    fn end(_kept: Self::Kept, _out: &mut [u8]) -> Result<usize, Refusal> {
+        Ok(0)
+    }
 
     ghost laws: { Laws turn formed count header begin parts rest least };
 }

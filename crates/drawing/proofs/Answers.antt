@@ -1,10 +1,11 @@
 -- The ends of the calls that take a header and a block.
 --
 --   header_good     == a header that was read has a good n
---   header_wrote, header_none == so the dump's header is written
+--   header_put == so the dump's header is written
 --   head_short, head_begun, head_refused == the ends of the call that takes a header
 --   block_short, block_unformed, block_fit, block_taken == the ends of the call that takes a block
 use Rattle.std.specs.Prelude.{Err, Ok}
+use Rattle.std.specs.Result.{result_unwrap_or}
 use Prim.Native.Nat.{ℕ, ◌+◌, ◌/◌, ◌≤◌, ◌<◌}
 use mathlib.Core.Path.{◌≡◌, refl, sym, ap, ◌∙◌}
 use mathlib.Core.Bool.{Bool, true, false, not}
@@ -36,13 +37,14 @@ use Rattle.streams.proofs.Taken.{few_lines, many_lines, short, unformed, taken}
 pub header_good : (s : List ℕ) (a : HeaderRead) (n next : ℕ) → a ≡ read_header_of Trace s → a ≡ Ok (n, next) → masters_ok n ≡ true
 header_good s a n next e f = range_ok n (header_writes Trace s n next (sym e ∙ f)).range
 
+sized : (w : Written) → result_unwrap_or w 0 ≡ size_of w
+sized (Ok k) = refl
+sized (Err r) = refl
+
 module _ (n : ℕ) (buffer out : List ℕ) (w : Written) (h : (masters_ok n ≡ true) × (398 ≤ length buffer))
     (e : (w ≡ write_dump_header_of n (length buffer)) × (out ≡ dump_header_written n buffer)) where
-  pub header_wrote : (k : ℕ) → w ≡ Ok k → Put (dump_header n) buffer k out
-  header_wrote k f = rw (ap size_of f) at (dump_header_fits n h.0 buffer out w h.1 e)
-
-  pub header_none : (r : Refusal) → w ≡ Err r → Put (dump_header n) buffer 0 out
-  header_none r f = rw (ap size_of f) at (dump_header_fits n h.0 buffer out w h.1 e)
+  pub header_put : (k : ℕ) → k ≡ result_unwrap_or w 0 → Put (dump_header n) buffer k out
+  header_put k f = rw (f ∙ sized w) (dump_header_fits n h.0 buffer out w h.1 e)
 
 module _ (s buffer : List ℕ) (p : Position) where
   pub head_short : length buffer < dump_head_room → p ≡ start_at 0 first_line

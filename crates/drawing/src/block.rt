@@ -34,6 +34,7 @@ fn go(p: Position, c: Cycle, out: &mut [u8]) -> (Position, usize)
 }
 
 // A line that is not taken: that of its refusal, which is 8 for a good line after the last cycle.
+// Stays: beside that of stimuli and of traces: the line number and what the end writes differ.
 fn stop(p: Position, rest: &[u8], out: &mut [u8]) -> usize
     requires { NotTaken p rest.now × (31 ≤ length out.old) }
     ensures { Lined p (dump_turn p rest.now) out.old result false p out.new }

@@ -20,10 +20,7 @@ fn put_header(n: u32, out: &mut [u8]) -> usize
     requires { (masters_ok n ≡ true) × (398 ≤ length out.old) }
     ensures { Put (dump_header n) out.old result out.new }
 {
-    match dumps::write_dump_header(n, out) {
-        Ok(k) => k,
-        Err(_) => 0,
-    }
+    dumps::write_dump_header(n, out).unwrap_or(0)
 }
 
 // The header of a trace: 9, or the dump's header and the start, or the line of a refusal.

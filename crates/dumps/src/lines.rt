@@ -34,6 +34,7 @@ fn put_few(width: usize, v: u32, buf: &mut [u8], at: usize)
     requires { (width ≤ 16) × (at + width ≤ length buf.old) }
     ensures { buf.new ≡ sets buf.old at (bits width v) }
 {
+    // Stays: the index is the place of the bit that is written.
     for i in 0..width {
         buf[at + i] = 48 + ((v >> (width - 1 - i)) % 2) as u8;
     }

@@ -24,6 +24,7 @@ pub fn for_masters(n: u32, k: Result<(), Refusal>) -> Result<(), Refusal>
 }
 
 // The digit that a byte writes in lower case, and `none` where it writes none.
+// Stays: a number in place of none, here and in digit_at and mask_at, as `number_at` of the definitions has it.
 #[tactic(auto, unfolding(formats::specs::Digits::hex_digit))]
 pub fn digit_or(b: u8, none: u32) -> u32
     ensures { (result ≡ (if nat_lt (hex_digit b) 16 then hex_digit b else none)) × (result ≤ none + 15) }

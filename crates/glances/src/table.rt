@@ -13,6 +13,7 @@ pub struct DigitTable {
 impl DigitTable {
     pub fn new() -> DigitTable {
         let mut digits = [0; 1024];
+        // Stays: the index is the byte, and its place, that is written.
         for i in 0..1024 {
             digits[i] = fields::digit_or((i % 256) as u8, 65536) << (i / 256 * 4);
         }

@@ -37,6 +37,7 @@ pub fn ranged(n: u32, next: usize) -> Result<(u32, usize), Refusal>
 }
 
 // What stands after the word: n in one digit, or in two with no leading zero, and LF.
+// Stays: beside masters_in of scans: what follows the digits and the refusal differ, and so do the definitions that the two meet.
 #[tactic(auto, unfolding(formats::specs::Headers::number_in))]
 fn number_in(s: &[u8], p: usize) -> Result<(u32, usize), Refusal>
     requires { p ≤ 8 }

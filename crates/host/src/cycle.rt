@@ -10,6 +10,7 @@ use octets::Held;
 use rules::{Inputs, Outputs, Refusal};
 
 // Whether a stimulus is valid for n, with few tests. Only where it is not are the tests made that name a refusal.
+// Stays: few tests where all are passed (docs/DECISIONS.md, 30a); `passes` of sights tests a recorded cycle.
 fn valid(n: u32, x: Inputs) -> bool
     requires { n ≤ 16 }
     ensures { result ≡ passes (inputs_check n x) }

@@ -21,6 +21,7 @@ fn number(verdict: Result<(), Refusal>) -> u32
     }
 }
 
+// Stays: beside step_line: another array is cut from the buffer, and other bytes are written into it.
 fn step_outputs(x: Inputs, state: &mut [u8], outputs: &mut [u8]) -> Result<(), Refusal>
     ensures { StepCall as_numbers x state.old outputs.old (number_of result) state.new outputs.new }
 {

@@ -83,6 +83,7 @@ fn start<R: Read, W: Write>(
 }
 
 // 1,024 lines at a time, and room for the breaches of each and of one line more.
+// Stays: the mains differ in sizes alone, but a size of an array cannot come from a constant of the trait.
 fn main(rt: HostRuntime) {
     let mut input = rt.stdin();
     let mut output = Output::new(rt.stdout());

@@ -34,6 +34,7 @@ pub fn put_refused(line: u32, r: Refusal, out: &mut [u8]) -> usize
 }
 
 // The trace's header.
+// Stays: beside put_refused and put_end: each is one line, and its clause another text.
 pub fn put_header(n: u32, out: &mut [u8]) -> usize
     requires { (masters_ok n ≡ true) × (31 ≤ length out.old) }
     ensures { Put (header Trace n) out.old result out.new }

@@ -21,6 +21,7 @@ fn is_printed(b: u8) -> bool
 }
 
 // What stands after the first space of the line; nothing where it has none.
+// Stays: the empty text for none, here and in code_in, as the definitions have it.
 fn after_space(s: &[u8]) -> &[u8]
     ensures { result.now ≡ after_space s.now }
 {

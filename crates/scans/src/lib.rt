@@ -22,6 +22,7 @@ fn step_size(s: &[u8]) -> usize
     ensures { (result ≡ length (step_text s.now)) × (result ≤ length s.now) }
 {
     let most = s.len().min(105);
+    // Stays: the index is what is answered.
     for i in 0..most {
         let next = fields::text::byte_at(s, i + 1);
         if (s[i] == b'\n') & (next == b'#') {

@@ -45,6 +45,7 @@ fn placed(width: usize, code: u8, s: &[u8]) -> bool
 }
 
 // The number that the characters write, the highest bit first; one too large where they are no bits.
+// Stays: one too large for none, as `bits_in` of the definitions has it; so it is not `few` of sights, which says none.
 fn bits_in(s: &[u8]) -> u32
     requires { length s.now ≤ 16 }
     ensures { result ≡ bits_in (length s.now) s.now }

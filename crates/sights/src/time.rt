@@ -19,6 +19,7 @@ fn after_digits(t: u32, s: &[u8; 128]) -> Option<&[u8]>
     ensures { IfSome result (λ rest. s.now ≡ time_line t ++ rest.now) }
 {
     let mut v = first_digit(s)?;
+    // Stays: the index says where the line ends.
     for i in 2..8 {
         match s[i] {
             b @ b'0'..=b'9' => v = v * 10 + (b - 48) as u32,

@@ -58,6 +58,7 @@ pub fn is_high(m: u32, i: u32) -> bool
 }
 
 // The mask of master i alone, and 0 for a number that no mask has room for.
+// Stays: 0 where no mask has room, as the clause says: the callers compare masks.
 pub fn single_bit(i: u32) -> u32
     ensures { result ≡ cond (ltb i 32) (single i) 0 }
 {

@@ -35,6 +35,7 @@ fn go(n: u32, b: Bus, x: Inputs, rest: &[u8], out: &mut [u8]) -> Bus
 }
 
 // A line that is not taken: that of its refusal, which is 8 for a good line after the last cycle.
+// Stays: beside that of traces and of drawing: what is read, the line number and what the end writes differ.
 fn stop(s: State, rest: &[u8], out: &mut [u8]) -> usize
     requires { WellFormed s × NotTaken s rest.now × (31 ≤ length out.old) }
     ensures { Lined s (arbiter_turn s rest.now) out.old result false s out.new }

@@ -81,6 +81,7 @@ fn tally(n: u32) -> Tally
 }
 
 // The header of a trace: 9, or the judge at its start, or the line of a refusal.
+// Stays: beside dump_head and undump_head: another header is read, another one written, and another state begun.
 pub fn judge_head(head: &[u8], out: &mut [u8]) -> Progress<Tally>
     ensures { (result ≡ judge_head_of head.now (length out.old)) × (out.new ≡ judge_head_left head.now out.old) }
 {

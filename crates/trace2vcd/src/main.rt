@@ -13,7 +13,6 @@ ghost use Rattle.trace2vcd.specs.Laws.{formed, count, laws};
 
 use console::{Ending, Output, Program};
 use conversions::Position;
-use rules::Refusal;
 use std::io::{Read, Write};
 use streams::Progress;
 
@@ -58,13 +57,9 @@ impl Program for Drawing {
         console::whole_lines(31, block)
     }
 
-    // It names no breach, and writes nothing after the end of its input.
+    // It names no breach.
     fn named(_p: Position) -> u32 {
         0
-    }
-
-    fn end(_p: Position, _out: &mut [u8]) -> Result<usize, Refusal> {
-        Ok(0)
     }
 }
 
@@ -84,6 +79,7 @@ fn start<R: Read, W: Write>(
 }
 
 // 1,024 lines at a time, and room for the step of each and of one line more.
+// Stays: the mains differ in sizes alone, but a size of an array cannot come from a constant of the trait.
 fn main(rt: HostRuntime) {
     let mut input = rt.stdin();
     let mut output = Output::new(rt.stdout());

@@ -35,6 +35,7 @@ fn go(b: Tally, c: Cycle, out: &mut [u8]) -> (Tally, usize)
 }
 
 // A line that is not taken: that of its refusal, which is 8 for a good line after the last cycle.
+// Stays: beside that of stimuli and of drawing: the line number and what the end writes differ.
 fn stop(b: Tally, rest: &[u8], out: &mut [u8]) -> usize
     requires { Formed b × NotTaken b rest.now × (31 ≤ length out.old) }
     ensures { Lined b (judge_turn b rest.now) out.old result false b out.new }

@@ -13,7 +13,6 @@ ghost use Rattle.vcd2trace.specs.Laws.{formed, count, laws};
 
 use console::{Ending, Output, Program};
 use conversions::Position;
-use rules::Refusal;
 use std::io::{Read, Write};
 use streams::Progress;
 
@@ -59,13 +58,9 @@ impl Program for Recalling {
         recalling::cut(block)
     }
 
-    // It names no breach, and writes nothing after the end of its input.
+    // It names no breach.
     fn named(_p: Position) -> u32 {
         0
-    }
-
-    fn end(_p: Position, _out: &mut [u8]) -> Result<usize, Refusal> {
-        Ok(0)
     }
 }
 
@@ -84,6 +79,7 @@ fn start<R: Read, W: Write>(
 }
 
 // 32,768 bytes at a time, and room for a trace line for each three of them and for one line more.
+// Stays: the mains differ in sizes alone, but a size of an array cannot come from a constant of the trait.
 fn main(rt: HostRuntime) {
     let mut input = rt.stdin();
     let mut output = Output::new(rt.stdout());

@@ -1,9 +1,6 @@
 -- `put_header` meets its contract: the header fits.
-use Rattle.drawing.proofs.Answers.{header_wrote, header_none}
+use Rattle.drawing.proofs.Answers.{header_put}
 use Rattle.drawing.proofs.put_header.Goals as goal
 
-pub returns-in-Ok : goal.returns-in-Ok
-returns-in-Ok c = search header_wrote
-
-pub returns-in-Err : goal.returns-in-Err
-returns-in-Err c = search header_none
+pub returns : goal.returns
+returns c = header_put _ _ _ _ c.requires c.write_dump_header.ensures _ c.unwrap_or.ensures
