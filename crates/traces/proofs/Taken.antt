@@ -5,16 +5,17 @@
 --   few_named      == no cycle charges more rules than there are
 --   went_on        == a cycle that is taken: its breach lines, and what is kept
 --   line_taken     == so a line that was read goes on
---   short_untaken   == what is no whole line is not taken
+--   left_untaken   == at the end of the loop no line is taken
 --   full, stops_full == a good line after the last cycle is refusal 8
 use Rattle.std.specs.Prelude.{Err, Ok, Some}
-use Prim.Native.Nat.{ℕ, ◌+◌, ◌≤◌, ◌<◌}
+use Prim.Native.Nat.{ℕ, ◌+◌, ◌-◌, ◌≤◌, ◌<◌}
 use mathlib.Core.Path.{◌≡◌, refl, sym, ◌∙◌, ap}
-use mathlib.Core.Bool.{Bool, true, false}
+use mathlib.Core.Bool.{Bool, true, false, ◌&&◌}
 use mathlib.Core.List.{List, map}
 use native.Mathlib.Omega.{arith}
-use borrow.Author.Tests.{le-leb}
-use lib.ListN.{length, take, length-take}
+use borrow.Author.Tests.{le-leb, leb-false}
+use lib.Dec.{leb}
+use lib.ListN.{length, take, drop, length-take, length-drop}
 use Rattle.rules.specs.declared.Refusal.TheVariants.{Full}
 use Rattle.rules.specs.declared.Cycle.{Cycle}
 use Rattle.rules.specs.Codes.{most_cycles}
@@ -91,5 +92,10 @@ stops_full b rest buffer out a c n k f stop e g put =
 
 -- where no line is taken: at no whole line, and at the end of the loop
 module _ (b : Tally) where
-  pub short_untaken : (rest : List ℕ) → length rest < 31 → NotTaken b rest
+  short_untaken : (rest : List ℕ) → length rest < 31 → NotTaken b rest
   short_untaken rest h = record { full = λ c k q. absurd (omega (arith, whole_line b.judge.n rest c k q)) }
+
+  pub left_untaken : (block : List ℕ) (at : ℕ) (on : Bool) → (on ≡ false → NotTaken b (drop at block)) → (on && leb 31 (length block - at)) ≡ false
+      → NotTaken b (drop at block)
+  left_untaken block at true f e = short_untaken (drop at block) (simp length-drop (leb-false 31 (length block - at) e))
+  left_untaken block at false f e = f refl
