@@ -1,6 +1,5 @@
 -- The laws of the calls that vcd2trace makes.
 pub mod Places
 pub mod Taken
-pub mod Running
 pub mod Answers
 pub mod Unique

@@ -40,11 +40,6 @@ use Rattle.conversions.proofs.Positions.{facts_of}
 use Rattle.conversions.proofs.UndumpLines.{step_on, step_refused, step_none}
 use Rattle.recalling.specs.Stepped.{Stepped}
 
--- a turn that stops takes nothing
-none_taken : (t : Turn Position) → goes_on t ≡ false → taken_by t ≡ 0
-none_taken (goes bytes s next) e = absurd (true≢false e)
-none_taken (stops bytes) e = refl
-
 counted_from : (a : ℕ) (s : List ℕ) → fold (λ a x. a + cond (nat_eq x 10) 1 0) a s ≡ a + lines_in s
 unfolding lines_in
 counted_from a [] = sym (add-zero a)
@@ -62,23 +57,19 @@ module _ (p : Position) (rest : List ℕ) (a : TraceRead) (e : a ≡ read_step_o
   pub read_as : (r : TraceRead) → a ≡ r → read_step_of p.n p.count p.before rest 0 ≡ r
   read_as r f = sym e ∙ f
 
-  pub stepped_out : (r : Refusal) (k : ℕ) (out : List ℕ) → a ≡ Err r → Put (refused_line p.line r) buffer k out → Stepped p rest buffer k 0 false p out
-  stepped_out r k out f put =
-      let l = step_refused p rest r buffer k out (read_as (Err r) f) put in
-      record { lined = l; took = none_taken (undump_turn p rest) (sym l.flow) }
+  pub stepped_out : (r : Refusal) (k : ℕ) (out : List ℕ) → a ≡ Err r → Put (refused_line p.line r) buffer k out → Stepped p rest buffer (Err k) out
+  stepped_out r k out f put = step_refused p rest r buffer k out (read_as (Err r) f) put
 
-  pub stepped_none : a ≡ Ok None → Stepped p rest buffer 0 0 false p buffer
-  stepped_none f =
-      let l = step_none p rest buffer (read_as (Ok None) f) in
-      record { lined = l; took = none_taken (undump_turn p rest) (sym l.flow) }
+  pub stepped_none : a ≡ Ok None → Stepped p rest buffer (Err 0) buffer
+  stepped_none f = step_none p rest buffer (read_as (Ok None) f)
 
 pub stepped : (p : Position) (rest buffer : List ℕ) (c : Cycle) (next lines : ℕ) (out : List ℕ)
     → read_step_of p.n p.count p.before rest 0 ≡ Ok (Some (c, next)) → lines_in (take next rest) ≡ lines → 31 ≤ length buffer → out ≡ sets buffer 0 (trace_line c)
-    → Stepped p rest buffer 31 next true (after p c lines) out
+    → Stepped p rest buffer (Ok (after p c lines, next, 31)) out
 stepped p rest buffer c next lines out e l room written =
     let put : Put (trace_line c) buffer 31 out = record { size = refl; puts = written ∙ sets-eq (trace_line c) buffer 0 room } in
     let s = step_on p rest c next lines buffer 31 out e l put in
-    record { lined = s.0; took = s.1 }
+    (s.0, s.1, tt)
 
 -- the columns of a valid cycle fit their places in a line
 cycle_fits : (n : ℕ) (c : Cycle) → n ≤ most_masters → cycle_check n c ≡ Ok tt → Fits c.inputs × FitsOut c.outputs

@@ -6,20 +6,14 @@ ghost use Rattle.waves.specs.Reading.{read_step_of};
 ghost use Rattle.waves.specs.Files.{lines_in};
 ghost use Rattle.conversions.specs.Positions.{position_formed};
 ghost use Rattle.conversions.specs.Blocks.{undump_room, undump_stretch};
+ghost use Rattle.conversions.specs.Undumping.{undump_turn};
+ghost use Rattle.conversions.proofs.Positions.{Formed};
+ghost use Rattle.conversions.proofs.UndumpLines.{undump_program_lem};
 ghost use Rattle.recalling.specs.Stepped.{Stepped};
 
 use conversions::Position;
 use rules::Cycle;
-use streams::{Flow, Progress};
-
-// What a step came to: the bytes written, those of the step, whether the program goes on, and where it stands.
-#[derive(Clone, Copy)]
-struct Went {
-    written: usize,
-    taken: usize,
-    on: bool,
-    position: Position,
-}
+use streams::{Progress, Taking};
 
 // The LFs of a step.
 fn lines_in(s: &[u8]) -> u32
@@ -29,10 +23,18 @@ fn lines_in(s: &[u8]) -> u32
     s.iter().filter(|b| **b == b'\n').count() as u32
 }
 
-// A step that was read: its trace line is written.
-fn go(p: Position, rest: &[u8], c: Cycle, next: usize, lines: u32, out: &mut [u8]) -> Went
+// A step that was read: its trace line is written. Where the program stands then, and the bytes of both.
+// Stays: whoever calls a block builds a `Position` freely and it is tested there, so its fact is a clause of each function behind the test.
+fn go(
+    p: Position,
+    rest: &[u8],
+    c: Cycle,
+    next: usize,
+    lines: u32,
+    out: &mut [u8],
+) -> (Position, usize, usize)
     requires { (position_formed p ≡ true) × (read_step_of p.n p.count p.before rest.now 0 ≡ Ok (Some (c, next))) × (lines_in (front next rest.now) ≡ lines) × (31 ≤ length out.old) }
-    ensures { Stepped p rest.now out.old result.written result.taken result.on result.position out.new }
+    ensures { Stepped p rest.now out.old (Ok result) out.new }
 {
     prints::put_cycle(c, out);
     let position = Position {
@@ -41,49 +43,61 @@ fn go(p: Position, rest: &[u8], c: Cycle, next: usize, lines: u32, out: &mut [u8
         before: c,
         line: p.line + lines,
     };
-    Went {
-        written: 31,
-        taken: next,
-        on: true,
-        position,
-    }
+    (position, next, 31)
 }
 
 // A step, read test by test: it is taken, or the line of its refusal is written.
-fn read(p: Position, rest: &[u8], out: &mut [u8]) -> Went
+fn read(p: Position, rest: &[u8], out: &mut [u8]) -> Result<(Position, usize, usize), usize>
     requires { (position_formed p ≡ true) × (31 ≤ length out.old) }
-    ensures { Stepped p rest.now out.old result.written result.taken result.on result.position out.new }
+    ensures { Stepped p rest.now out.old result out.new }
 {
-    let before = p.before;
-    match scans::read_step(p.n, p.count, before, rest, 0) {
-        Ok(Some((c, next))) => go(p, rest, c, next, lines_in(&rest[..next]), out),
-        Ok(None) => Went {
-            written: 0,
-            taken: 0,
-            on: false,
-            position: p,
-        },
-        Err(r) => Went {
-            written: reports::put_refused(p.line, r, out),
-            taken: 0,
-            on: false,
-            position: p,
-        },
+    match scans::read_step(p.n, p.count, p.before, rest, 0) {
+        Ok(Some((c, next))) => Ok(go(p, rest, c, next, lines_in(&rest[..next]), out)),
+        Ok(None) => Err(0),
+        Err(r) => Err(reports::put_refused(p.line, r, out)),
     }
 }
 
-// A step: at a glance if it is a good one.
-fn step(p: Position, rest: &[u8], out: &mut [u8]) -> Went
-    requires { (position_formed p ≡ true) × (31 ≤ length out.old) }
-    ensures { Stepped p rest.now out.old result.written result.taken result.on result.position out.new }
-{
-    if p.count < 1000000 {
-        let before = p.before;
-        if let Some(seen) = sights::see_step(p.n, p.count, before, rest) {
-            return go(p, rest, seen.cycle, seen.next, seen.lines, out);
+// A dump recalled, step by step.
+struct Recalling;
+
+impl Taking for Recalling {
+    type Kept = Position;
+
+    type State = Position;
+
+    ghost state = { λ t p. p };
+
+    ghost ready = { λ t p. Unit };
+
+    ghost turn = { undump_turn };
+
+    ghost formed = { Formed };
+
+    ghost least = { 3 };
+
+    ghost most = { 31 };
+
+    // At a glance if it is a good one.
+    fn take(
+        &self,
+        p: Position,
+        rest: &[u8],
+        out: &mut [u8],
+    ) -> Result<(Position, usize, usize), usize> {
+        if p.count < 1000000 {
+            if let Some(seen) = sights::see_step(p.n, p.count, p.before, rest) {
+                return Ok(go(p, rest, seen.cycle, seen.next, seen.lines, out));
+            }
         }
+        read(p, rest, out)
     }
-    read(p, rest, out)
+
+    fn state(&self, p: Position) -> Position {
+        p
+    }
+
+    ghost laws = { undump_program_lem };
 }
 
 // A block, step after step.
@@ -91,26 +105,5 @@ pub fn run(p: Position, block: &[u8], out: &mut [u8]) -> Progress<Position>
     requires { (position_formed p ≡ true) × (undump_room block.now ≤ length out.old) }
     ensures { (result ≡ progress_of (undump_stretch p block.now)) × (out.new ≡ over (bytes_of (undump_stretch p block.now)) out.old) }
 {
-    let mut position = p;
-    let mut at: usize = 0;
-    let mut w: usize = 0;
-    while at < block.len() {
-        let went = step(position, &block[at..], &mut out[w..]);
-        let next = went.position;
-        w += went.written;
-        if !went.on {
-            return Progress {
-                written: w,
-                flow: Flow::Stopped,
-                kept: next,
-            };
-        }
-        position = next;
-        at += went.taken;
-    }
-    Progress {
-        written: w,
-        flow: Flow::GoesOn,
-        kept: position,
-    }
+    streams::take_block(&Recalling, p, block, out)
 }

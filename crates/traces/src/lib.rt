@@ -23,6 +23,7 @@ struct Gone {
 }
 
 // A cycle that the judge takes: its breach lines are written.
+// Stays: what the judging program keeps comes in by value and is tested once, so its fact is a clause of each function behind the test.
 fn go(b: Tally, c: Cycle, out: &mut [u8]) -> Gone
     requires { Formed b × (b.judge.count < most_cycles) × (cycle_check b.judge.n c ≡ Ok tt) × (315 ≤ length out.old) }
     ensures { Lined b (judged_to (judge_of b.judge c).verdict (judge_of b.judge c) b 31) out.old result.written true result.tally out.new }
@@ -43,6 +44,7 @@ fn go(b: Tally, c: Cycle, out: &mut [u8]) -> Gone
 }
 
 // A line that is not taken: that of its refusal, which is 8 for a good line after the last cycle.
+// Stays: beside that of stimuli and of drawing: the line number and what the end writes differ.
 fn stop(b: Tally, rest: &[u8], out: &mut [u8]) -> usize
     requires { Formed b × NotTaken b rest.now × (31 ≤ length out.old) }
     ensures { Lined b (judge_turn b rest.now) out.old result false b out.new }
@@ -65,6 +67,7 @@ pub fn run(b: Tally, block: &[u8], out: &mut [u8]) -> Progress<Tally>
     let mut at: usize = 0;
     let mut w: usize = 0;
     let mut on = true;
+    // Stays: through `streams::take_block` a line costs 521 instructions for 478, and 485 are allowed.
     while on & (31 <= block.len() - at) {
         let j = tally.judge;
         match digits.see_trace(j.n, &block[at..]) {
