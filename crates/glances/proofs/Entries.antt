@@ -1,12 +1,13 @@
--- The table of digits, made entry by entry.
+-- The table of digits, made byte by byte.
 --
 --   weighed place b == what the digit of the byte b weighs in a place; weighed_small: how much at most
---   shifted_digit == an entry, as it is made by a shift
---   all_digits    == entries that are all made so are the table
-use Rattle.std.proofs.Common.{◌≡◌, ℕ, zero, suc, ◌+◌, ◌*◌, ◌/◌, ◌%◌, ◌^◌, ◌<◌, ◌≤◌, List, length, get_or, arith}
+--   To b t      == the digits of the bytes below b are in their four places
+--   digits_more == one byte further, when that byte's digit is stored
+use Rattle.std.proofs.Common.{◌≡◌, ℕ, zero, suc, ◌+◌, ◌*◌, ◌^◌, ◌<◌, ◌≤◌, List, length, get_or, set, sym, ◌∙◌, zero-add, mul-one, arith, length-set, get_or-set_other, get_or-set_same}
+use Rattle.rules.proofs.Choice.{order}
 use Rattle.formats.specs.Digits.{hex_digit}
 use Rattle.formats.proofs.Bytes.{below}
-use Rattle.glances.specs.Glances.{digit_of, Digits}
+use Rattle.glances.specs.Glances.{digit_of}
 
 digit_small : (b : ℕ) → digit_of b ≤ 65536
 digit_small b = below (λ d. d ≤ 65536) (hex_digit b) 16 (λ h. omega arith) (λ h. omega arith)
@@ -21,26 +22,62 @@ weighed_small (suc (suc zero)) b h = omega (arith, digit_small b)
 weighed_small (suc (suc (suc zero))) b h = omega (arith, digit_small b)
 weighed_small (suc (suc (suc (suc place)))) b h = absurd (omega arith)
 
--- an entry, as it is made by a shift
-pub shifted_digit : (i d : ℕ) → i < 1024 → d ≡ digit_of (i % 256) → d * 2 ^ (i / 256 * 4) % 2 ^ 32 ≡ weighed (i / 256) (i % 256)
-shifted_digit i d h e = go (i / 256) (omega arith)
-  where
-    small : d ≤ 65536
-    small = omega (arith, digit_small (i % 256))
+abbrev pub To : ℕ → List ℕ → Type 0
+To b t = (place k : ℕ) → place < 4 → k < b → get_or t (place * 256 + k) 0 ≡ weighed place k
 
-    go : (place : ℕ) → place < 4 → d * 2 ^ (place * 4) % 2 ^ 32 ≡ weighed place (i % 256)
-    go zero k = rw (← e) (omega (arith, small))
-    go (suc zero) k = rw (← e) (omega (arith, small))
-    go (suc (suc zero)) k = rw (← e) (omega (arith, small))
-    go (suc (suc (suc zero))) k = rw (← e) (omega (arith, small))
-    go (suc (suc (suc (suc place)))) k = absurd (omega arith)
+-- one byte's digit stored in its four places
+module _ (b v : ℕ) (t : List ℕ) (size : length t ≡ 1024) (small : b < 256) where
+  abbrev t1 : List ℕ
+  t1 = set t b v
 
-pub all_digits : (t : List ℕ) → length t ≡ 1024 → ((k : ℕ) → k < 1024 → get_or t k 0 ≡ weighed (k / 256) (k % 256)) → Digits t
-all_digits t size h =
-    record {
-      size = size;
-      at = λ place b few less.
-          let q : (place * 256 + b) / 256 ≡ place = omega arith in
-          let r : (place * 256 + b) % 256 ≡ b = omega arith in
-          rw (q, r) at (h (place * 256 + b) (omega arith));
-    }
+  abbrev t2 : List ℕ
+  t2 = set t1 (256 + b) (v * 16)
+
+  abbrev t3 : List ℕ
+  t3 = set t2 (512 + b) (v * 256)
+
+  abbrev t4 : List ℕ
+  t4 = set t3 (768 + b) (v * 4096)
+
+  length_1 : length t1 ≡ 1024
+  length_1 = length-set t b v ∙ size
+
+  length_2 : length t2 ≡ 1024
+  length_2 = length-set t1 (256 + b) (v * 16) ∙ length_1
+
+  length_3 : length t3 ≡ 1024
+  length_3 = length-set t2 (512 + b) (v * 256) ∙ length_2
+
+  stored : (place : ℕ) → place < 4 → get_or t4 (place * 256 + b) 0 ≡ v * 16 ^ place
+  stored zero h =
+      rw zero-add
+      (get_or-set_other t3 (768 + b) b (v * 4096) 0 (λ q. omega arith)
+      ∙ get_or-set_other t2 (512 + b) b (v * 256) 0 (λ q. omega arith)
+      ∙ get_or-set_other t1 (256 + b) b (v * 16) 0 (λ q. omega arith)
+      ∙ get_or-set_same t b v 0 (omega arith)
+      ∙ sym (mul-one v))
+  stored (suc zero) h =
+      get_or-set_other t3 (768 + b) (256 + b) (v * 4096) 0 (λ q. omega arith)
+      ∙ get_or-set_other t2 (512 + b) (256 + b) (v * 256) 0 (λ q. omega arith)
+      ∙ get_or-set_same t1 (256 + b) (v * 16) 0 (omega (arith, length_1))
+  stored (suc (suc zero)) h =
+      get_or-set_other t3 (768 + b) (512 + b) (v * 4096) 0 (λ q. omega arith)
+      ∙ get_or-set_same t2 (512 + b) (v * 256) 0 (omega (arith, length_2))
+  stored (suc (suc (suc zero))) h = get_or-set_same t3 (768 + b) (v * 4096) 0 (omega (arith, length_3))
+  stored (suc (suc (suc (suc place)))) h = absurd (omega arith)
+
+  -- an entry of another byte is as it was
+  others : (i : ℕ) → (i ≡ b → ⊥) → (i ≡ 256 + b → ⊥) → (i ≡ 512 + b → ⊥) → (i ≡ 768 + b → ⊥) → get_or t4 i 0 ≡ get_or t i 0
+  others i f g h k =
+      get_or-set_other t3 (768 + b) i (v * 4096) 0 k
+      ∙ get_or-set_other t2 (512 + b) i (v * 256) 0 h
+      ∙ get_or-set_other t1 (256 + b) i (v * 16) 0 g
+      ∙ get_or-set_other t b i v 0 f
+
+  pub digits_more : To b t → v ≡ digit_of b → To (b + 1) t4
+  digits_more h e place k few less =
+      order b k
+      (λ last. let q : k ≡ b = omega arith in rw (q, ← e) (stored place few))
+      (λ before.
+      others (place * 256 + k) (λ q. omega arith) (λ q. omega arith) (λ q. omega arith) (λ q. omega arith)
+      ∙ h place k few before)

@@ -4,6 +4,42 @@ ghost use Rattle.glances.specs.Glances.{digit_of, Digits, MaskSeen};
 
 // For each byte the digit that it writes in lower case, and 65,536 where it writes none; then the same for three places more, each of
 // which weighs sixteen times as much.
+pub fn digits() -> [u32; 1024]
+    ensures { Digits result }
+{
+    let mut table = [0; 1024];
+    // Stays: the index is the byte, and in each place the same, that is written.
+    for b in 0..256 {
+        let d = fields::digit_or(b as u8, 65536);
+        table[b] = d;
+        table[256 + b] = d * 16;
+        table[512 + b] = d * 256;
+        table[768 + b] = d * 4096;
+    }
+    table
+}
+
+// The digit at p, as it weighs in its place of a column.
+pub fn digit_at(digits: &[u32], place: usize, s: &[u8], p: usize) -> u32
+    requires { Digits digits.now × (place < 4) × (p < length s.now) }
+    ensures { (result ≡ digit_of (slice_index s.now p) * 16 ^ place) × (result ≤ 268435456) }
+{
+    digits[place * 256 + s[p] as usize]
+}
+
+// A column of four digits; no mask where one of them is none.
+pub fn mask_at(digits: &[u32], s: &[u8], p: usize) -> u32
+    requires { Digits digits.now × (p + 4 ≤ length s.now) }
+    ensures { MaskSeen s.now p result }
+{
+    let a = digit_at(digits, 3, s, p);
+    let b = digit_at(digits, 2, s, p + 1);
+    let c = digit_at(digits, 1, s, p + 2);
+    let d = digit_at(digits, 0, s, p + 3);
+    a + b + c + d
+}
+
+// The table as a value that carries what is known of it.
 #[derive(Drop)]
 pub struct DigitTable {
     pub digits: [u32; 1024],
@@ -12,12 +48,7 @@ pub struct DigitTable {
 
 impl DigitTable {
     pub fn new() -> DigitTable {
-        let mut digits = [0; 1024];
-        // Stays: the index is the byte, and its place, that is written.
-        for i in 0..1024 {
-            digits[i] = fields::digit_or((i % 256) as u8, 65536) << (i / 256 * 4);
-        }
-        DigitTable { digits }
+        DigitTable { digits: digits() }
     }
 
     // The digit at p, as it weighs in its place of a column.
@@ -25,7 +56,7 @@ impl DigitTable {
         requires { (place < 4) × (p < length s.now) }
         ensures { (result ≡ digit_of (slice_index s.now p) * 16 ^ place) × (result ≤ 268435456) }
     {
-        self.digits[place * 256 + s[p] as usize]
+        digit_at(&self.digits, place, s, p)
     }
 
     // A column of four digits; no mask where one of them is none.
@@ -33,10 +64,6 @@ impl DigitTable {
         requires { p + 4 ≤ length s.now }
         ensures { MaskSeen s.now p result }
     {
-        let a = self.digit_at(3, s, p);
-        let b = self.digit_at(2, s, p + 1);
-        let c = self.digit_at(1, s, p + 2);
-        let d = self.digit_at(0, s, p + 3);
-        a + b + c + d
+        mask_at(&self.digits, s, p)
     }
 }

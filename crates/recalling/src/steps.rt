@@ -23,8 +23,10 @@ fn lines_in(s: &[u8]) -> u32
     s.iter().filter(|b| **b == b'\n').count() as u32
 }
 
-// A step that was read: its trace line is written. Where the program stands then, and the bytes of both.
+// A step that was read: its trace line is written. Where the program stands then, and the bytes of both. It is put into both its callers, since a
+// call would hand on and take back the whole position by memory.
 // Stays: whoever calls a block builds a `Position` freely and it is tested there, so its fact is a clause of each function behind the test.
+#[inline(always)]
 fn go(
     p: Position,
     rest: &[u8],

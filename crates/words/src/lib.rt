@@ -22,10 +22,18 @@ pub fn eight(s: &[u8]) -> u64
     u64::from_le_bytes([s[0], s[1], s[2], s[3], s[4], s[5], s[6], s[7]])
 }
 
-// Writes a number into the first eight bytes.
+// Writes a number into eight bytes.
+fn put_all(w: u64, out: &mut [u8])
+    requires { length out.old ≡ 8 }
+    ensures { out.new ≡ low_first 8 w }
+{
+    *out.first_chunk_mut().unwrap() = w.to_le_bytes();
+}
+
+// Writes a number into the first eight bytes. They are cut off first, so that no length is tested where they are written.
 pub fn put_eight(w: u64, out: &mut [u8])
     requires { 8 ≤ length out.old }
     ensures { out.new ≡ sets out.old 0 (low_first 8 w) }
 {
-    out[..8].copy_from_slice(&w.to_le_bytes());
+    put_all(w, &mut out[..8]);
 }
