@@ -1,20 +1,21 @@
-// The judge's state in 42 bytes, seen as a judge.
+// The judge's state in the first 42 bytes of a lent slice, seen as a judge.
 #![tactic(auto)]
 
 mod reading;
 
-ghost use Rattle.std.specs.Prelude.{◌≡◌};
+ghost use Rattle.std.specs.Prelude.{◌≡◌, ◌≤◌, length};
 ghost use Rattle.docketing.specs.Bytes.{bytes_judge};
 
 use rulebook::Judge;
 
-// The judge that these bytes are, well formed or not, if they are those of one.
-#[tactic(auto, unfolding(docketing::specs::Bytes::bytes_judge))]
-pub fn see(b: &[u8; 42]) -> Option<Judge>
+// The judge that the first 42 bytes are, well formed or not, if they are those of one.
+pub fn see(b: &[u8]) -> Option<Judge>
+    requires { 42 ≤ length b.now }
     ensures { result ≡ bytes_judge b.now }
 {
-    if reading::is_judge(b) {
-        Some(reading::judge_in(b))
+    let first = b.first_chunk().unwrap();
+    if reading::is_judge(first) {
+        Some(reading::judge_in(first))
     } else {
         None
     }

@@ -1,5 +1,6 @@
 -- The ends of the judge's two calls, over plain values: J and B are the lent buffers, which begin with the bytes h and m.
 --
+--   first_long, judge_whole, mask_whole == the first bytes of a buffer are so many, and what is stored there is just the judge, or the mask
 --   start_short, start_fits, start_refused, start_taken == the ends of a start
 --   step_short_judge, step_short_broken, step_unknown, step_fits, step_refused, step_taken == the ends of a step
 --   step_called, start_called == the number of a verdict is what the call from C answers
@@ -7,9 +8,9 @@ use Rattle.std.specs.Prelude.{Option, Some, None, Ok, Err}
 use Prim.Native.Nat.{ℕ, ◌≤◌, ◌<◌}
 use mathlib.Core.Path.{◌≡◌, refl, sym, ◌∙◌, ap}
 use mathlib.Core.Bool.{Bool, true, false}
-use mathlib.Core.List.{List, ◌++◌}
+use mathlib.Core.List.{List, [], ◌++◌, append-nil}
 use native.Mathlib.Omega.{arith}
-use lib.ListN.{length, take, drop, length-drop}
+use lib.ListN.{length, take, drop, length-drop, drop_of_length-le}
 use lib.Seq.{length-take-le}
 use Rattle.std.proofs.lemmas.Option.{same_Some}
 use Rattle.rules.specs.declared.Refusal.{Refusal}
@@ -34,6 +35,18 @@ use Rattle.docketing.specs.Calls.{ruling_of, of_docket, judge_step, judge_stored
 use Rattle.hearings.specs.Hearings.{verdict_of, JudgeSteps, JudgeStarts}
 use Rattle.docketing.proofs.Bytes.{judge_fits, first_judge}
 use Rattle.docketing.proofs.Calls.{short_judge, short_broken, short_start, long_enough, plain_start}
+
+-- what is stored in a buffer that is just so long
+pub first_long : (k : ℕ) (S h : List ℕ) → k ≤ length S → h ≡ take k S → length h ≡ k
+first_long k S h room e = rw e (length-take-le k S room)
+
+pub judge_whole : (j : Judge) (h : List ℕ) → length h ≡ 42 → judge_stored j h ≡ judge_bytes j
+unfolding judge_stored
+judge_whole j h e = let none : drop 42 h ≡ [] = drop_of_length-le h {i = 42} (omega arith) in rw none (append-nil (judge_bytes j))
+
+pub mask_whole : (m : ℕ) (h : List ℕ) → length h ≡ 4 → mask_stored m h ≡ low_first 4 m
+unfolding mask_stored
+mask_whole m h e = let none : drop 4 h ≡ [] = drop_of_length-le h {i = 4} (omega arith) in rw none
 
 -- a start: v is its answer, and a that of the judge
 module _ (n : ℕ) (J : List ℕ) (v : Verdict) where

@@ -9,7 +9,7 @@ use rules::{Cycle, Refusal};
 pub fn start(n: u32, judge: &mut [u8]) -> Result<(), Refusal>
     ensures { JudgeStarts n judge.old result judge.new }
 {
-    let judge = judge.first_chunk_mut().ok_or(Refusal::Short)?;
+    let judge = judge.first_chunk_mut::<42>().ok_or(Refusal::Short)?;
     let started = judging::start(n);
     started.verdict?;
     entries::put(started.judge, judge);
@@ -20,8 +20,8 @@ pub fn start(n: u32, judge: &mut [u8]) -> Result<(), Refusal>
 pub fn step(c: Cycle, judge: &mut [u8], broken: &mut [u8]) -> Result<(), Refusal>
     ensures { JudgeSteps c judge.old broken.old result judge.new broken.new }
 {
-    let judge = judge.first_chunk_mut().ok_or(Refusal::Short)?;
-    let broken = broken.first_chunk_mut().ok_or(Refusal::Short)?;
+    let judge = judge.first_chunk_mut::<42>().ok_or(Refusal::Short)?;
+    let broken = broken.first_chunk_mut::<4>().ok_or(Refusal::Short)?;
     let j = dockets::see(judge).ok_or(Refusal::State)?;
     let ruled = judging::rule(j, c);
     ruled.verdict?;

@@ -3,6 +3,7 @@
 --   enter_unknown, enter_full, enter_refused, enter_ready == the ends of the tests of a step
 --   many           == so many masters has the state of bytes
 --   next_formed, cycled == a cycle that is taken
+--   state_whole, first_long == what is stored in twelve bytes, and that the first twelve are so many
 --   small, needs   == what is asked of the outputs and the inputs, to write them
 --   step_short_state, step_short_shown, step_refused, step_taken == the ends of a step, whatever it shows
 --   line_written   == the line of a cycle
@@ -15,7 +16,7 @@ use mathlib.Core.Bool.{Bool, true, false}
 use mathlib.Core.List.{List, [], ◌++◌, append-nil}
 use native.Mathlib.Omega.{arith}
 use lib.ListN.{length, get_or, take, drop, drop_of_length-le}
-use lib.Seq.{sets, sets-eq}
+use lib.Seq.{sets, sets-eq, length-take-le}
 use Rattle.std.proofs.lemmas.Option.{same_Some}
 use Rattle.rules.specs.declared.Refusal.{Refusal}
 use Rattle.rules.specs.declared.Refusal.TheVariants as refusal
@@ -148,6 +149,14 @@ module _ (x : Inputs) (S : List ℕ) (o : Outputs) (S' : List ℕ) (k : Cycled x
         granted = omega (arith, d.granted);
         busreq = omega (arith, d.request);
       }
+
+-- what is stored in a buffer that is just so long
+pub state_whole : (s : State) (h : List ℕ) → length h ≡ 12 → state_stored s h ≡ state_bytes s
+unfolding state_stored
+state_whole s h e = let none : drop 12 h ≡ [] = drop_of_length-le h {i = 12} (omega arith) in rw none (append-nil (state_bytes s))
+
+pub first_long : (S h : List ℕ) → 12 ≤ length S → h ≡ take 12 S → length h ≡ 12
+first_long S h room e = rw e (length-take-le 12 S room)
 
 -- a step
 module _ (d : Display) (x : Inputs) (S L : List ℕ) (v : Verdict) where

@@ -17,7 +17,7 @@ fn number(verdict: Result<(), Refusal>) -> u32
 {
     match verdict {
         Ok(()) => 0,
-        Err(r) => u32::from(r),
+        Err(r) => signals::number(r),
     }
 }
 
@@ -92,7 +92,7 @@ pub extern "C" fn espigambre_step(
 fn reset(n: u32, state: &mut [u8]) -> Result<(), Refusal>
     ensures { ResetCall n state.old (number_of result) state.new }
 {
-    let state = state.first_chunk_mut().ok_or(Refusal::Short)?;
+    let state = state.first_chunk_mut::<12>().ok_or(Refusal::Short)?;
     let start = arbitration::reset(n)?;
     let bus = buses::bus_of(start);
     octets::put(Held { n: start.n, bus }, state);

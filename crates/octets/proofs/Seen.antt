@@ -1,19 +1,18 @@
 -- What lent bytes hold: l, a, p and k are the bytes of HMASTLOCK, GRANTED, the phase and k, and v is the number of the four.
 --
 --   unsound, seen    == what is seen of the bytes is what they hold
-use Prim.Native.Nat.{ℕ, zero, suc, ◌+◌, ◌*◌, ◌/◌, ◌%◌, ◌≤◌}
+use Prim.Native.Nat.{ℕ, zero, suc, ◌+◌, ◌-◌, ◌*◌, ◌/◌, ◌%◌, ◌≤◌}
 use mathlib.Core.Path.{◌≡◌, sym, ◌∙◌}
 use mathlib.Core.Bool.{Bool, true, false, ◌&&◌, ◌||◌}
 use mathlib.Core.List.{List}
 use native.Mathlib.Omega.{arith}
 use borrow.Author.Tests.{leb-true, le-leb, eqb-true}
 use lib.Dec.{eqb, leb, ltb}
-use lib.ListN.{get_or}
-use Rattle.std.specs.Int.{w32, from_le_bytes}
+use lib.ListN.{length, get_or, take, drop}
 use Rattle.rules.specs.State.{phase_ok, well_formed}
 use Rattle.rules.proofs.Choice.{and_left, and_right, and_both}
 use Rattle.words.specs.Words.{number_low}
-use Rattle.words.proofs.Words.{Bytes, slots, four_read}
+use Rattle.words.proofs.Words.{Bytes, number_part}
 use Rattle.buses.specs.declared.Bus.{Bus}
 use Rattle.buses.specs.Buses.{phase_from, phase_number, state_from}
 use Rattle.buses.proofs.Phases.{number_of}
@@ -211,21 +210,21 @@ module _ (b : List ℕ) (w : Bytes b) (v i : ℕ) (f s : Bool)
 -- the bytes are read one by one, four at once, and four more
 module _ (b : List ℕ) (w : Bytes b) (n g m v count i : ℕ) (f s : Bool)
     (en : n ≡ get_or b 0 0) (eg : g ≡ get_or b 1 0) (em : m ≡ get_or b 2 0)
-    (ev : v ≡ from_le_bytes w32 (slots b 3 4))
-    (ec : count ≡ from_le_bytes w32 (slots b 8 4))
+    (ev : v ≡ number_low 4 (take (length b - 3) (drop 3 b)) 0)
+    (ec : count ≡ number_low 4 (take (length b - 8) (drop 8 b)) 0)
     (place : small v ≡ true → i ≡ place_of v)
     (fits : f ≡ fitting (i % 2) (i / 2 % 2) (i / 4 % 4) (i / 16))
     (smalls : s ≡ small v)
   where
     tests : tested n g m v (get_or b 7 0) count f s ≡ tested (get_or b 0 0) (get_or b 1 0) (get_or b 2 0) v (get_or b 7 0) (number_low 4 b 8) f s
-    tests = rw (en, eg, em, ec ∙ four_read b 8)
+    tests = rw (en, eg, em, ec ∙ number_part 4 8 b 0)
 
     pub unsound : tested n g m v (get_or b 7 0) count f s ≡ false → sound_in b ≡ false
     unsound e =
-        sym (exact b w v i f s (ev ∙ four_read b 3) place fits smalls) ∙ sym tests ∙ e
+        sym (exact b w v i f s (ev ∙ number_part 4 3 b 0) place fits smalls) ∙ sym tests ∙ e
 
     pub seen : (q : ℕ) → q ≡ phase_number (phase_of (i / 4 % 4) (i / 16)) → q ≤ 5 → tested n g m v (get_or b 7 0) count f s ≡ true
         → Holds b (record { n = n; bus = record { g = g; m = m; hmastlock = v % 2; granted = v / 256 % 2; phase = q; count = count } })
     seen q number most e =
-        rw (en, eg, em, ec ∙ four_read b 8)
-        (held_here b w v i f s (ev ∙ four_read b 3) place fits smalls q number most (sym tests ∙ e))
+        rw (en, eg, em, ec ∙ number_part 4 8 b 0)
+        (held_here b w v i f s (ev ∙ number_part 4 3 b 0) place fits smalls q number most (sym tests ∙ e))

@@ -1,10 +1,11 @@
-// The arbiter's state in twelve bytes: seen as plain numbers, and written from them.
+// The arbiter's state in the first twelve bytes of a lent slice: seen as plain numbers, and written from them.
 #![tactic(auto)]
 
-ghost use Rattle.std.specs.Prelude.{◌≡◌, true, false, ◌%◌, ◌/◌, ◌≤◌, ◌<◌, MatchOption};
+ghost use Rattle.std.specs.Prelude.{◌≡◌, true, false, ◌%◌, ◌/◌, ◌≤◌, ◌<◌, length, MatchOption};
 ghost use Rattle.rules.specs.State.{WellFormed};
 ghost use Rattle.buses.specs.Buses.{phase_from, phase_number, state_from, Fit};
-ghost use Rattle.hosting.specs.Bytes.{state_bytes, phase_byte, left_byte, phase_of};
+ghost use Rattle.hosting.specs.Bytes.{phase_byte, left_byte, phase_of};
+ghost use Rattle.hosting.specs.Calls.{state_stored};
 ghost use Rattle.octets.specs.Octets.{small as small_of, place_of, fitting, sound_in, Holds};
 
 use buses::Bus;
@@ -50,15 +51,16 @@ fn phase(i: u64) -> u32
     ((table >> (i / 4 * 4)) % 8) as u32
 }
 
-// The state that these bytes hold, if they are those of a well-formed one.
-pub fn see(b: &[u8; 12]) -> Option<Held>
+// The state that the first twelve bytes hold, if they are those of a well-formed one.
+pub fn see(b: &[u8]) -> Option<Held>
+    requires { 12 ≤ length b.now }
     ensures { MatchOption result (sound_in b.now ≡ false) (λ h. Holds b.now h) }
 {
     let n = b[0].into();
     let g = b[1].into();
     let m = b[2].into();
-    let v = u32::from_le_bytes([b[3], b[4], b[5], b[6]]);
-    let count = u32::from_le_bytes([b[8], b[9], b[10], b[11]]);
+    let v = words::four(&b[3..]);
+    let count = words::four(&b[8..]);
     let i = place(v);
     let granted = v / 0x100 % 2;
     let right = fits(i) & small(v) & (b[7] == 0);
@@ -100,13 +102,13 @@ fn left_byte(k: u32) -> u8
 }
 
 // Writes the bytes of a state.
-pub fn put(s: Held, b: &mut [u8; 12])
-    requires { WellFormed (state_from s.n s.bus) × Fit s.bus }
-    ensures { b.new ≡ state_bytes (state_from s.n s.bus) }
+pub fn put(s: Held, b: &mut [u8])
+    requires { WellFormed (state_from s.n s.bus) × Fit s.bus × (12 ≤ length b.old) }
+    ensures { b.new ≡ state_stored (state_from s.n s.bus) b.old }
 {
     let bus = s.bus;
     let [first, second, third, fourth] = bus.count.to_le_bytes();
-    *b = [
+    *b.first_chunk_mut().unwrap() = [
         s.n as u8,
         bus.g as u8,
         bus.m as u8,

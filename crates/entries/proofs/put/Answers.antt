@@ -1,12 +1,18 @@
--- `put` meets its contract: the four parts, one behind the other.
-use mathlib.Core.Path.{◌∙◌}
+-- `put` meets its contract: the four parts, one behind the other, in the first 42 bytes.
+use mathlib.Core.Path.{◌≡◌, refl, ap, ◌∙◌}
+use lib.ListN.{length}
+use lib.Seq.{length-take-le}
+use Rattle.docketing.specs.Calls.{judge_stored}
 use Rattle.entries.proofs.Stored.{all_stored}
 use Rattle.entries.proofs.put.Goals as goal
 
 pub returns : goal.returns
+unfolding judge_stored
 returns c =
-    all_stored c.args.j c.args.b.now _ _ _ _ c.told-b
+    let chunk = rw c.unwrap-b.ensures at c.first_chunk_mut.ensures.cases in
+    let size : length c.unwrap-b.result.now ≡ 42 = ap length chunk.same ∙ length-take-le 42 c.args.b.now c.requires.1 in
+    let stored = all_stored c.args.j c.unwrap-b.result.now _ _ _ _ size
     (c.copy_from_slice.ensures.after ∙ c.head_bytes.ensures)
     (c.copy_from_slice-2.ensures.after ∙ c.input_bytes.ensures)
     (c.copy_from_slice-3.ensures.after ∙ c.output_bytes.ensures)
-    (c.copy_from_slice-4.ensures.after ∙ c.lost_bytes.ensures)
+    (c.copy_from_slice-4.ensures.after ∙ c.lost_bytes.ensures) in rw stored refl
