@@ -163,6 +163,6 @@ pub fn write_end(cycles: u32, breaches: u32, buf: &mut [u8]) -> Result<usize, Re
 pub fn write_refused(line: u32, r: Refusal, buf: &mut [u8]) -> Result<usize, Refusal>
     ensures { (result ≡ write_of (refused_line line r) (length buf.old)) × (buf.new ≡ written_of (refused_line line r) buf.old) }
 {
-    let number = u32::from(r);
+    let number = signals::number(r);
     write_numbers(b"refused\t", &[(line, b'\t'), (number, b'\n')], buf)
 }
