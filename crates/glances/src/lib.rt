@@ -74,8 +74,8 @@ pub fn see_trace(digits: &[u32], n: u32, s: &[u8]) -> Option<Cycle>
     }
 }
 
+// The same over a table that carries what is known of it.
 impl DigitTable {
-    // The columns of the stimulus line that s begins with, if it is good.
     pub fn see_stimulus(&self, n: u32, s: &[u8]) -> Option<Inputs>
         requires { (masters_ok n ≡ true) × (16 ≤ length s.now) }
         ensures { SeesStimulus n s.now result }
@@ -83,7 +83,6 @@ impl DigitTable {
         see_stimulus(&self.digits, n, s)
     }
 
-    // The columns of the trace line that s begins with, if it is good.
     pub fn see_trace(&self, n: u32, s: &[u8]) -> Option<Cycle>
         requires { (masters_ok n ≡ true) × (31 ≤ length s.now) }
         ensures { SeesTrace n s.now result }

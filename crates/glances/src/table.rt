@@ -8,13 +8,14 @@ pub fn digits() -> [u32; 1024]
     ensures { Digits result }
 {
     let mut table = [0; 1024];
-    // Stays: the index is the byte, and in each place the same, that is written.
-    for b in 0..256 {
+    // Stays: the index is the byte whose digit is looked up, and its entry in each place. Of 32 bits, it is compared four at once.
+    for b in 0..256u32 {
         let d = fields::digit_or(b as u8, 65536);
-        table[b] = d;
-        table[256 + b] = d * 16;
-        table[512 + b] = d * 256;
-        table[768 + b] = d * 4096;
+        let i = b as usize;
+        table[i] = d;
+        table[256 + i] = d * 16;
+        table[512 + i] = d * 256;
+        table[768 + i] = d * 4096;
     }
     table
 }
@@ -51,7 +52,7 @@ impl DigitTable {
         DigitTable { digits: digits() }
     }
 
-    // The digit at p, as it weighs in its place of a column.
+    // Here and below: the function of that name, over this table.
     pub fn digit_at(&self, place: usize, s: &[u8], p: usize) -> u32
         requires { (place < 4) × (p < length s.now) }
         ensures { (result ≡ digit_of (slice_index s.now p) * 16 ^ place) × (result ≤ 268435456) }
@@ -59,7 +60,6 @@ impl DigitTable {
         digit_at(&self.digits, place, s, p)
     }
 
-    // A column of four digits; no mask where one of them is none.
     pub fn mask_at(&self, s: &[u8], p: usize) -> u32
         requires { p + 4 ≤ length s.now }
         ensures { MaskSeen s.now p result }

@@ -121,7 +121,7 @@ fn put_outputs(o: Outputs, out: &mut [u8])
     words::put_eight(flags, &mut out[8..]);
 }
 
-// Writes the trace line of the cycle c, whatever its HGRANT is. It is put into its callers, which have the columns at hand.
+// Writes the trace line of the cycle c, whatever its HGRANT is. It is put into its caller, which has the columns at hand.
 // Stays: beside put_line, which knows that HGRANT has a single bit and writes it without its digits; the arbiter is as fast as it is by that.
 #[inline(always)]
 pub fn put_cycle(c: Cycle, line: &mut [u8])

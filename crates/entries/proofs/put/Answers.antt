@@ -1,6 +1,7 @@
 -- `put` meets its contract: the four parts, one behind the other, in the first 42 bytes.
 use mathlib.Core.Path.{◌≡◌, refl, ap, ◌∙◌}
-use lib.ListN.{length}
+use borrow.Author.Rules.{rules}
+use lib.ListN.{length, take}
 use lib.Seq.{length-take-le}
 use Rattle.docketing.specs.Calls.{judge_stored}
 use Rattle.entries.proofs.Stored.{all_stored}
@@ -9,8 +10,8 @@ use Rattle.entries.proofs.put.Goals as goal
 pub returns : goal.returns
 unfolding judge_stored
 returns c =
-    let chunk = rw c.unwrap-b.ensures at c.first_chunk_mut.ensures.cases in
-    let size : length c.unwrap-b.result.now ≡ 42 = ap length chunk.same ∙ length-take-le 42 c.args.b.now c.requires.1 in
+    let first : c.unwrap-b.result.now ≡ take 42 c.args.b.now = search rules in
+    let size : length c.unwrap-b.result.now ≡ 42 = ap length first ∙ length-take-le 42 c.args.b.now c.requires.1 in
     let stored = all_stored c.args.j c.unwrap-b.result.now _ _ _ _ size
     (c.copy_from_slice.ensures.after ∙ c.head_bytes.ensures)
     (c.copy_from_slice-2.ensures.after ∙ c.input_bytes.ensures)
