@@ -8,14 +8,13 @@ pub fn digits() -> [u32; 1024]
     ensures { Digits result }
 {
     let mut table = [0; 1024];
-    // Stays: the index is the byte whose digit is looked up, and its entry in each place. Of 32 bits, it is compared four at once.
-    for b in 0..256u32 {
+    // Stays: the index is the byte whose digit is looked up, and its entry in each place.
+    for b in 0..256 {
         let d = fields::digit_or(b as u8, 65536);
-        let i = b as usize;
-        table[i] = d;
-        table[256 + i] = d * 16;
-        table[512 + i] = d * 256;
-        table[768 + i] = d * 4096;
+        table[b] = d;
+        table[256 + b] = d * 16;
+        table[512 + b] = d * 256;
+        table[768 + b] = d * 4096;
     }
     table
 }
