@@ -21,11 +21,15 @@ fn after_digits(t: u32, s: &[u8; 128]) -> Option<&[u8]>
     let mut v = first_digit(s)?;
     // Stays: the index says where the line ends.
     for i in 2..8 {
-        match s[i] {
-            b @ b'0'..=b'9' => v = v * 10 + (b - 48) as u32,
-            b'\n' if v == t => return Some(&s[i + 1..]),
-            _ => return None,
+        let b = s[i];
+        if !b.is_ascii_digit() {
+            return if (b == b'\n') & (v == t) {
+                Some(&s[i + 1..])
+            } else {
+                None
+            };
         }
+        v = v * 10 + (b - 48) as u32;
     }
     None
 }
